@@ -15,7 +15,7 @@ use Rattle.journal.specs.Pool.{pool}
 use Rattle.journal.specs.Turns.{entry_of}
 use Rattle.journal.specs.declared.journal.Actor.TheVariants as actor
 use Rattle.list_facts.proofs.Elements.{all_in}
-use Rattle.players.specs.declared.typed.Typed.{Typed}
+use Rattle.byte_bodies.specs.Typed.{Typed}
 use Rattle.run_spec.specs.declared.messages.Message.{Message}
 use Rattle.run_spec.specs.declared.messages.Message.TheVariants as message
 use Rattle.run_spec.specs.declared.messages.Unsealed.{Unsealed}

@@ -17,7 +17,7 @@ use Rattle.group_controller.specs.State.{ControllerState}
 use Rattle.group_controller.specs.Turns.{Controlling, state_of}
 use Rattle.of_switch.specs.State.{SwitchState}
 use Rattle.app_core.specs.Law.{AppLaw}
-use Rattle.players.specs.declared.typed.Typed.{Typed}
+use Rattle.byte_bodies.specs.Typed.{Typed}
 use Rattle.run_spec.specs.declared.messages.Message.{Message}
 use Rattle.run_spec.specs.Bodies.{byte_bodies, message_bytes}
 use Rattle.run_spec.specs.Committed.{controller_state, switch_state}

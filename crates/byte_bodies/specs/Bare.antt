@@ -5,7 +5,7 @@ use Rattle.journal.specs.declared.journal.JournalEntry.{JournalEntry}
 use Rattle.journal.specs.declared.journal.JournalEntry.TheVariants.{Post, Draw, Lose, Local, Idle, Refused}
 use Rattle.journal.specs.declared.journal.Letter.{Letter}
 use Rattle.journal.specs.declared.journal.Packet.{Packet}
-use Rattle.players.specs.declared.typed.Typed.{Typed}
+use Rattle.byte_bodies.specs.Typed.{Typed}
 use Rattle.run_spec.specs.Bodies.{byte_bodies, message_bytes}
 use Rattle.run_spec.specs.Messages.{message_size, said_on}
 use Rattle.run_spec.specs.States.{Scene, Sealing}

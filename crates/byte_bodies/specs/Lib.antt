@@ -1,3 +1,4 @@
 pub mod Bare
 pub mod Framed
 pub mod SameSteps
+pub mod Typed

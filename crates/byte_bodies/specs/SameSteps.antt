@@ -15,7 +15,7 @@ use Rattle.journal.specs.Turns.{entry_of}
 use Rattle.app_core.specs.Law.{AppLaw}
 use Rattle.list_facts.specs.Lists.{IsIn}
 use Rattle.group_controller.specs.Turns.{state_of}
-use Rattle.players.specs.declared.typed.Typed.{Typed}
+use Rattle.byte_bodies.specs.Typed.{Typed}
 use Rattle.run_spec.specs.Bodies.{byte_bodies}
 use Rattle.run_spec.specs.Committed.{decided}
 use Rattle.run_spec.specs.Legal.{IsPossible, results_of}

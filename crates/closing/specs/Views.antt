@@ -1,6 +1,9 @@
 -- How great a view may be. Its field in a letter has 32 bits, so each bound is told with what keeps the views behind it
 -- below 2^32.
 use Rattle.std.specs.Prelude.{ℕ}
+use Rattle.journal.specs.declared.entries.Head.{Head}
+use Rattle.journal.specs.declared.entries.Head.TheVariants as head
+use Rattle.run_laws.specs.Laws.{SuspectsUpTo}
 
 -- a step of a script suspects no greater view: the eight attempts that a closing behind it may take add 64 at most
 abbrev pub most_view_of_a_script : ℕ
@@ -15,3 +18,8 @@ views_of_an_attempt = 8
 -- they added 56 at most
 abbrev pub most_view_of_a_closing : ℕ
 most_view_of_a_closing = 4100000000
+
+-- an entry without its letters suspects no greater view
+abbrev pub HeadSuspectsUpTo : ℕ → Head → Type 0
+HeadSuspectsUpTo limit (head.Local actor input) = SuspectsUpTo limit input
+HeadSuspectsUpTo limit _ = Unit {0}

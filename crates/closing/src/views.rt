@@ -1,11 +1,11 @@
 //! Whether the views of a closing have room.
 ghost use Rattle.std.specs.Prelude.{◌↔◌, IsTrue};
 ghost use Rattle.journal.specs.Pool.{past};
-ghost use Rattle.run_laws.specs.Laws.{EntrySuspectsUpTo, IsSuspectedUpTo};
-ghost use Rattle.closing.specs.Views.{most_view_of_a_script};
+ghost use Rattle.run_laws.specs.Laws.{IsSuspectedUpTo};
+ghost use Rattle.closing.specs.Views.{most_view_of_a_script, HeadSuspectsUpTo};
 
 use app_core::App;
-use journal::{JournalEntry, Local};
+use journal::{Head, Local};
 use players::Body;
 use world::World;
 
@@ -16,8 +16,8 @@ const MOST_VIEW_OF_A_SCRIPT: u32 = 4_000_000_000;
 pub fn may_close<B: Body, A: App>(world: &World<B, A>) -> bool
     ensures { IsTrue result ↔ IsSuspectedUpTo most_view_of_a_script (past world.now.journal) }
 {
-    for entry in world.journal() {
-        if !suspects_within(entry) {
+    for head in world.heads() {
+        if !suspects_within(head) {
             return false;
         }
     }
@@ -25,11 +25,11 @@ pub fn may_close<B: Body, A: App>(world: &World<B, A>) -> bool
 }
 
 /// Whether an entry suspects no greater view.
-fn suspects_within<B>(entry: &JournalEntry<B>) -> bool
-    ensures { IsTrue result ↔ EntrySuspectsUpTo most_view_of_a_script entry.now }
+fn suspects_within(head: &Head) -> bool
+    ensures { IsTrue result ↔ HeadSuspectsUpTo most_view_of_a_script head.now }
 {
-    match entry {
-        JournalEntry::Local { input, .. } => match input {
+    match head {
+        Head::Local { input, .. } => match input {
             Local::Suspect { view } => *view <= MOST_VIEW_OF_A_SCRIPT,
             _ => true,
         },

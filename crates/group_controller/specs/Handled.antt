@@ -5,7 +5,7 @@ use Rattle.group_controller.specs.declared.handled.Handled.{Handled}
 use Rattle.group_controller.specs.declared.handled.Handled.TheVariants.{Nothing, One, Many}
 
 -- the events, in order
-abbrev pub events_of : Handled → List HandledEvent
-events_of Nothing = []
-events_of (One event) = event ∷ []
-events_of (Many events) = events.items
+abbrev pub handled_events : Handled → List HandledEvent
+handled_events Nothing = []
+handled_events (One event) = event ∷ []
+handled_events (Many events) = events.items

@@ -7,10 +7,10 @@ use Rattle.group_controller.specs.declared.mails.Mail.TheVariants as mail
 use Rattle.group_controller.specs.declared.messages.ControllerSays.{ControllerSays}
 
 -- a letter to a switch, or those to other members
-abbrev pub letters_of : Mail → List (Letter ControllerSays)
-letters_of (mail.Switch switch xid message) = to_switch switch xid message ∷ []
-letters_of (mail.Members letters) = to_members letters
+abbrev pub letters_mailed : Mail → List (Letter ControllerSays)
+letters_mailed (mail.Switch switch xid message) = to_switch switch xid message ∷ []
+letters_mailed (mail.Members letters) = to_members letters
 
 -- those of each, in order
 abbrev pub mailed : List Mail → List (Letter ControllerSays)
-mailed mails = flat_map letters_of mails
+mailed mails = flat_map letters_mailed mails

@@ -9,8 +9,8 @@ ghost use Rattle.vr_core.specs.Lasting.{CollectsItsOwn};
 ghost use Rattle.vr_core.specs.Step.{vr_step};
 ghost use Rattle.dispatcher.specs.Ledger.{most_commands};
 ghost use Rattle.group_controller.specs.Acting.{Acts, ActsUpTo, answers_to, AreNewlyHandled, BeginsTurn, ForEachGroup, InSomeGroup, Offers, posts_letters, TakesStep, with_out, with_state, Works};
-ghost use Rattle.group_controller.specs.Handled.{events_of};
-ghost use Rattle.group_controller.specs.Mails.{letters_of};
+ghost use Rattle.group_controller.specs.Handled.{handled_events};
+ghost use Rattle.group_controller.specs.Mails.{letters_mailed};
 ghost use Rattle.group_controller.specs.Rules as rules;
 ghost use Rattle.group_controller.specs.Rules.{after_step, starting_view, unconfirmed};
 ghost use Rattle.group_controller.specs.Settling as settling;
@@ -124,7 +124,7 @@ impl<A: App> Active<A> {
     }
 
     fn post(&mut self, mail: Mail) -> Result<(), AllocError>
-        ensures { OnOk result (self.new ≡ posts_letters self.old (letters_of mail)) }
+        ensures { OnOk result (self.new ≡ posts_letters self.old (letters_mailed mail)) }
     {
         self.mails.reserve(1)?;
         self.mails.push_reserved(mail);
@@ -154,7 +154,7 @@ impl<A: App> Active<A> {
         requires { IsValidState self.old.work.state.vr }
         ensures { OnOk result (TakesStep self.old (vr_step self.old.work.state.vr input.now) self.new) }
     {
-        self.replica.step_into(input, &mut self.out)?;
+        self.replica.step(input, &mut self.out)?;
         add_out(&mut self.promise, &mut self.mails, &mut self.out)
     }
 
@@ -165,7 +165,7 @@ impl<A: App> Active<A> {
         requires follows { may_follow self.old.work.state.vr.log entry ≡ true }
         ensures { Offers self.old entry result self.new }
     {
-        self.replica.propose_into(entry, &mut self.out)?;
+        self.replica.propose(entry, &mut self.out)?;
         match add_out(&mut self.promise, &mut self.mails, &mut self.out) {
             Ok(()) => Ok(()),
             Err(AllocError) => Err(ProposeFault::OutOfMemory),
@@ -178,7 +178,7 @@ impl<A: App> Active<A> {
         requires valid { IsValidState self.old.work.state.vr }
         requires reach { before ≤ self.old.work.state.vr.commit }
         ensures folds { ForEachGroup (ActsUpTo A.law before self.old) (λ kinds setup.
-            IfOk result (λ handled. AreNewlyHandled kinds setup self.new.work.state before (events_of handled) × Acts A.law self.new kinds setup)) }
+            IfOk result (λ handled. AreNewlyHandled kinds setup self.new.work.state before (handled_events handled) × Acts A.law self.new kinds setup)) }
         ensures work { self.new.work ≡ self.old.work }
         ensures promise { self.new.promise ≡ self.old.promise }
     {

@@ -3,7 +3,7 @@ ghost use Rattle.std.specs.Prelude.{◌≡◌, ◌++◌, true, IfOk};
 ghost use Rattle.vr_log.specs.Log.{follows};
 ghost use Rattle.dispatcher.specs.Folding.{places_processed};
 ghost use Rattle.dispatcher.specs.Ledger.{AreHandledAt, ForEachLog, StandsFor};
-ghost use Rattle.group_controller.specs.Handled.{events_of};
+ghost use Rattle.group_controller.specs.Handled.{handled_events};
 
 use app_core::App;
 use dispatcher::{Dispatcher, HandledEvent};
@@ -23,7 +23,7 @@ impl Handled {
     /// The events, in order.
     #[inline(always)]
     pub(crate) fn as_slice(&self) -> &[HandledEvent]
-        ensures { result.now ≡ events_of self.now }
+        ensures { result.now ≡ handled_events self.now }
     {
         match self {
             Handled::Nothing => &[],
@@ -40,7 +40,7 @@ pub(crate) fn fold_new<A: App>(
     entries: &[Entry],
 ) -> Result<Handled, AllocError>
     ensures folds { ForEachLog (StandsFor A.law dispatcher.old) (λ kinds setup log. follows log entries.now ≡ true →
-        IfOk result (λ list. AreHandledAt kinds setup (log ++ entries.now) (places_processed entries.now) (events_of list) × StandsFor A.law dispatcher.new kinds setup (log ++ entries.now))) }
+        IfOk result (λ list. AreHandledAt kinds setup (log ++ entries.now) (places_processed entries.now) (handled_events list) × StandsFor A.law dispatcher.new kinds setup (log ++ entries.now))) }
     ensures marks { dispatcher.new.marks ≡ dispatcher.old.marks }
 {
     let [entry] = entries else {

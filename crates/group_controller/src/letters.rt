@@ -1,7 +1,7 @@
 //! Letters of a controller.
 ghost use Rattle.std.specs.Prelude.{◌≡◌, ◌++◌, ◌∷◌, [], map, OnOk};
 ghost use Rattle.vr_log.specs.Steps.{later_of};
-ghost use Rattle.group_controller.specs.Mails.{letters_of, mailed};
+ghost use Rattle.group_controller.specs.Mails.{letters_mailed, mailed};
 ghost use Rattle.group_controller.specs.Settling as settling;
 ghost use Rattle.group_controller.specs.State as state;
 ghost use Rattle.group_controller.specs.State.{to_members};
@@ -14,7 +14,7 @@ use vr_log::{VrLetters, VrOut};
 
 /// A message to a switch. One that is no answer has number 0.
 pub(crate) fn to_switch(switch: u8, xid: u32, message: Spoken) -> Mail
-    ensures { letters_of result ≡ state.to_switch switch xid message ∷ [] }
+    ensures { letters_mailed result ≡ state.to_switch switch xid message ∷ [] }
 {
     Mail::Switch {
         switch,
@@ -25,7 +25,7 @@ pub(crate) fn to_switch(switch: u8, xid: u32, message: Spoken) -> Mail
 
 /// A switch is asked to take this controller as master.
 pub(crate) fn role_letter(view: u32, switch: u8) -> Mail
-    ensures { letters_of result ≡ settling.role_letter view switch ∷ [] }
+    ensures { letters_mailed result ≡ settling.role_letter view switch ∷ [] }
 {
     let request = OfMessage::RoleRequest {
         role: MASTER,
@@ -36,7 +36,7 @@ pub(crate) fn role_letter(view: u32, switch: u8) -> Mail
 
 /// A command to its switch, with the view as its generation.
 pub(crate) fn command_letter(view: u32, numbered: NumberedOrder) -> Mail
-    ensures { letters_of result ≡ settling.command_letter view numbered ∷ [] }
+    ensures { letters_mailed result ≡ settling.command_letter view numbered ∷ [] }
 {
     let command = Extension::Command {
         life: numbered.life,
@@ -50,7 +50,7 @@ pub(crate) fn command_letter(view: u32, numbered: NumberedOrder) -> Mail
 
 /// A switch is told how many events of a life are done with.
 pub(crate) fn ack_letter(told: AckThrough) -> Mail
-    ensures { letters_of result ≡ settling.ack_letter told ∷ [] }
+    ensures { letters_mailed result ≡ settling.ack_letter told ∷ [] }
 {
     let ack = Extension::EventAck {
         life: told.life,
@@ -61,7 +61,7 @@ pub(crate) fn ack_letter(told: AckThrough) -> Mail
 
 /// A switch is told how many commands of a life are done with.
 pub(crate) fn clear_letter(told: AckThrough) -> Mail
-    ensures { letters_of result ≡ settling.clear_letter told ∷ [] }
+    ensures { letters_mailed result ≡ settling.clear_letter told ∷ [] }
 {
     let clear = Extension::Clear {
         life: told.life,

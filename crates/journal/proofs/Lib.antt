@@ -14,3 +14,5 @@ pub mod Picking
 pub mod Among
 pub mod All
 pub mod Found
+pub mod Packing
+pub mod Heads

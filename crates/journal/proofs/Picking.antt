@@ -20,14 +20,14 @@ use Rattle.journal.proofs.Pools.{Rising-pool, waiting-at}
 
 module _ {B : Type 0} where
   -- the place of a packet that waits for the actor
-  pub record IsPicked (size : B → ℕ) (start : Ledger B) (actor : Actor) (choice : ℕ) (place : PacketPlace) : Type 0 where
+  pub record IsPicked {G : Type 0} (size : B → ℕ) (start : Ledger B G) (actor : Actor) (choice : ℕ) (place : PacketPlace) : Type 0 where
     pub packet : Packet B
     pub picks : pick actor choice (past start.entries.items) ≡ Some packet
     pub is : IsPlaceOf start.entries.items place packet
     pub some : 1 ≤ start.waiting.letters
     pub small : size packet.body ≤ start.waiting.bytes
 
-  pub picked_is : (size : B → ℕ) (start : Ledger B) (actor : Actor) (choice : ℕ) (place : PacketPlace) → IsLedger size start → Some place ≡ picked choice (queue_of start.queues actor) → IsPicked size start actor choice place
+  pub picked_is : {G : Type 0} (size : B → ℕ) (start : Ledger B G) (actor : Actor) (choice : ℕ) (place : PacketPlace) → IsLedger size start → Some place ≡ picked choice (queue_of start.queues actor) → IsPicked size start actor choice place
   picked_is size start actor choice place kept is =
       let packets = pool (past start.entries.items) in
       let found = places_picked start.entries.items (queue_of start.queues actor) (waiting actor packets) choice (kept.waits.queues_are actor) in
@@ -44,11 +44,11 @@ module _ {B : Type 0} where
         small = omega (arith, smaller, body, kept.waits.bytes_are);
       }
 
-  pub body_is : (o : Option (Packet B)) (p : Packet B) (body : B) → IfSome o (λ packet. body ≡ packet.body) → o ≡ Some p → body ≡ p.body
-  body_is o p body is found = subst (λ o. IfSome o (λ packet. body ≡ packet.body)) found is
+  pub weight_is : (size : B → ℕ) (o : Option (Packet B)) (p : Packet B) (weight : ℕ) → IfSome o (λ packet. weight ≡ size packet.body) → o ≡ Some p → weight ≡ size p.body
+  weight_is size o p weight is found = subst (λ o. IfSome o (λ packet. weight ≡ size packet.body)) found is
 
   -- the packet leaves
-  pub leaves : (size : B → ℕ) (start : Ledger B) (actor : Actor) (choice : ℕ) (keep : Bool) (place : PacketPlace) (after : Queues) (weight : ℕ) → IsLedger size start → (is : IsPicked size start actor choice place) →
+  pub leaves : {G : Type 0} (size : B → ℕ) (start : Ledger B G) (actor : Actor) (choice : ℕ) (keep : Bool) (place : PacketPlace) (after : Queues) (weight : ℕ) → IsLedger size start → (is : IsPicked size start actor choice place) →
       keep ≡ false →
       ((a : Actor) → queue_of after a ≡ (if same_actor actor a then left_in choice keep (queue_of start.queues a) else queue_of start.queues a)) →
       after.order ≡ order_left keep (Some place) start.queues.order → weight ≡ size is.packet.body →

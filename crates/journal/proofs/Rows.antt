@@ -1,8 +1,8 @@
 -- Rows of queues, where one queue changes, and queues at whose end letters come and go.
-use Rattle.std.proofs.Common.{◌≡◌, ◌<◌, ℕ, Bool, true, false, List, [], ◌∷◌, ◌++◌, length, map, filter, get_or, set, refl, sym, ap, ◌∙◌, arith, cond, append_assoc}
+use Rattle.std.proofs.Common.{◌≡◌, ◌<◌, ◌≤◌, ℕ, zero, suc, ◌+◌, ◌-◌, Bool, true, false, List, [], ◌∷◌, ◌++◌, length, map, take, filter, get_or, set, refl, sym, ap, ◌∙◌, arith, cond, append_assoc}
 use Rattle.std.specs.Prelude.{nat_eq, if◌then◌else◌}
 use Rattle.std.proofs.lemmas.Bool.{eqb-true, eqb-false}
-use Rattle.std.proofs.lemmas.List.{get_or-set_same, get_or-set_other, get_or-map, map-set, length-map, append-nil}
+use Rattle.std.proofs.lemmas.List.{get_or-set_same, get_or-set_other, get_or-map, map-set, length-map, length-append, length-take, append-nil}
 use Rattle.std.proofs.lemmas.List.Elements.{filter-append}
 
 module _ {A : Type 0} where
@@ -41,3 +41,32 @@ module _ {A : Type 0} where
       by_test false t =
           let now : after ≡ before = after_is ∙ ap (λ b. if b then before ++ x ∷ [] else before) t in
           now ∙ before_is ∙ ap (λ xs. start ++ xs) (sym (append-nil (filter test sent))) ∙ ap (λ b. start ++ (filter test sent ++ cond b (x ∷ []) [])) (sym t)
+
+-- fewer of the first ones
+pub take_less : {A : Type 0} (m n : ℕ) (xs : List A) → m ≤ n → take m (take n xs) ≡ take m xs
+take_less zero n xs low = refl
+take_less (suc m) zero xs low = absurd (omega (arith, low))
+take_less (suc m) (suc n) [] low = refl
+take_less (suc m) (suc n) (x ∷ xs) low = ap (λ ys. x ∷ ys) (take_less m n xs (omega (arith, low)))
+
+-- one less at the end of a queue, or of another queue
+pub popped_more : {A B : Type 0} (test : B → Bool) (start : List A) (gone : List B) (l : B) (before after : List A) → before ≡ take (length start - length (filter test gone)) start →
+    after ≡ (if test l then take (length before - 1) before else before) → after ≡ take (length start - length (filter test (gone ++ l ∷ []))) start
+popped_more test start gone l before after before_is after_is = by_test (test l) refl
+  where
+    by_test : (b : Bool) → test l ≡ b → after ≡ take (length start - length (filter test (gone ++ l ∷ []))) start
+    by_test true t =
+        let count = length (filter test gone) in
+        let more : filter test (gone ++ l ∷ []) ≡ filter test gone ++ l ∷ [] = filter-append test gone (l ∷ []) ∙ ap (λ b. filter test gone ++ cond b (l ∷ []) []) t in
+        let one : length (filter test (gone ++ l ∷ [])) ≡ count + 1 = omega (arith, ap length more, length-append (filter test gone) (l ∷ [])) in
+        let long : length before ≡ length start - count = omega (arith, ap length before_is, length-take (length start - count) start) in
+        let short : length before - 1 ≡ length start - length (filter test (gone ++ l ∷ [])) = omega (arith, one, long) in
+        let low : length start - length (filter test (gone ++ l ∷ [])) ≤ length start - count = omega (arith, one) in
+        after_is
+        ∙ ap (λ b. if b then take (length before - 1) before else before) t
+        ∙ ap (λ n. take n before) short
+        ∙ ap (take (length start - length (filter test (gone ++ l ∷ [])))) before_is
+        ∙ take_less (length start - length (filter test (gone ++ l ∷ []))) (length start - count) start low
+    by_test false t =
+        let same : filter test (gone ++ l ∷ []) ≡ filter test gone = filter-append test gone (l ∷ []) ∙ ap (λ b. filter test gone ++ cond b (l ∷ []) []) t ∙ append-nil (filter test gone) in
+        after_is ∙ ap (λ b. if b then take (length before - 1) before else before) t ∙ before_is ∙ ap (λ xs. take (length start - length xs) start) (sym same)

@@ -1,6 +1,6 @@
 -- What the steps of a turn make of a ledger.
 use Rattle.std.proofs.Common.{◌≡◌, ◌≤◌, ◌<◌, subst, ℕ, ◌+◌, ◌-◌, false, Option, List, [], ◌∷◌, ◌++◌, length, take, map, refl, sym, ap, ◌∙◌, arith}
-use Rattle.std.specs.Prelude.{nat_eq, vec_len, vec_capacity}
+use Rattle.std.specs.Prelude.{nat_eq}
 use Rattle.std.proofs.lemmas.List.{length-append, length-take-le, map-append}
 use Rattle.std.proofs.lemmas.List.Elements.{filter-append}
 use Rattle.std.proofs.lemmas.List.Sums.{sum_by-append}
@@ -76,7 +76,7 @@ module _ {B : Type 0} where
     queues_are = λ a. places_later journal more (queue_of queues a) (waiting a packets) (is.queues_are a);
   }
 
-  pub record IsPosted (size : B → ℕ) (a : Actor) (letters : List (Letter B)) (start after : Ledger B) : Type 0 where
+  pub record IsPosted {G : Type 0} (size : B → ℕ) (a : Actor) (letters : List (Letter B)) (start after : Ledger B G) : Type 0 where
     pub kept : IsLedger size after
     pub entries_are : after.entries.items ≡ start.entries.items ++ posting size a letters (past start.entries.items)
 
@@ -87,16 +87,18 @@ module _ {B : Type 0} where
       ap (λ n. Post a n (l ∷ letters) lost ∷ []) next_is ∙ ap (λ n. Post a (letters_posted before) (l ∷ letters) n ∷ []) lost_is
 
   -- a ledger after a post
-  pub posts : (size : B → ℕ) (a : Actor) (letters : List (Letter B)) (start prepared after : Ledger B) (ready : Ready) → false ≡ nat_eq (length letters) 0 → IsLedger size start → IsReady size a letters start prepared ready →
-      after.entries.items ≡ prepared.entries.items ++ Post a prepared.posted.letters letters ready.lost ∷ [] → after.queues ≡ prepared.queues → after.posted ≡ ready.posted → after.waiting ≡ ready.waiting →
+  pub posts : {G : Type 0} (size : B → ℕ) (a : Actor) (letters : List (Letter B)) (start prepared after : Ledger B G) (ready : Ready) → false ≡ nat_eq (length letters) 0 → IsLedger size start → IsReady size a letters start prepared ready →
+      after.entries.items ≡ prepared.entries.items ++ Post a prepared.entries.next prepared.entries.coming ready.lost ∷ [] → after.entries.coming ≡ [] →
+      after.entries.next ≡ prepared.entries.next + length prepared.entries.coming → after.queues ≡ prepared.queues → after.posted ≡ ready.posted → after.waiting ≡ ready.waiting →
       IsPosted size a letters start after
-  posts size a letters start prepared after ready some kept is entries_are queues_are posted_are waiting_are =
+  posts size a letters start prepared after ready some kept is entries_are coming_are next_is queues_are posted_are waiting_are =
       let before = past start.entries.items in
       let entry : JournalEntry B = Post a start.posted.letters letters ready.lost in
       let now : after.entries.items ≡ start.entries.items ++ entry ∷ [] =
       entries_are
-      ∙ ap (λ es. es ++ Post a prepared.posted.letters letters ready.lost ∷ []) is.entries_same
-      ∙ ap (λ (s : Sums). start.entries.items ++ Post a s.letters letters ready.lost ∷ []) is.posted_same in
+      ∙ ap (λ ls. prepared.entries.items ++ Post a prepared.entries.next ls ready.lost ∷ []) is.coming_is
+      ∙ ap (λ es. es ++ Post a prepared.entries.next letters ready.lost ∷ []) is.entries_same
+      ∙ ap (λ n. start.entries.items ++ Post a n letters ready.lost ∷ []) (is.next_same ∙ kept.next) in
       let past_now : past after.entries.items ≡ entry ∷ before = ap past now ∙ past-push start.entries.items entry in
       let lost_is : ready.lost ≡ lost_of size (pool before) letters =
       is.lost_is
@@ -113,21 +115,23 @@ module _ {B : Type 0} where
         kept = record {
           kept = rw (past_now, posted_are) (IsKept-post size before start.posted.letters start.posted.bytes ready.lost a letters ready.posted kept.kept lost_is is.summed);
           waits = rw (past_now, now, queues_are, waiting_are, come) waits;
+          coming = coming_are;
+          next = omega (arith, next_is, is.next_same, kept.next, ap length is.coming_is, is.summed.letters_are, ap (λ (s : Sums). s.letters) posted_are);
           room = λ may. absurd (subst (λ (es : List (JournalEntry B)). MayBeRefused es) past_now may);
         };
         entries_are = now ∙ ap (λ es. start.entries.items ++ es) (posting_some size a letters before start.posted.letters ready.lost some kept.kept.next_is lost_is);
       }
 
   -- a ledger after an input
-  pub record IsTaken (start after : Ledger B) (size : B → ℕ) (found : Option PacketPlace) (step : Turn) : Type 0 where
+  pub record IsTaken {G : Type 0} (start after : Ledger B G) (size : B → ℕ) (found : Option PacketPlace) (step : Turn) : Type 0 where
     pub kept : IsLedger size after
     pub found_is : IsFound after.entries.items found (found_in step (pool (past start.entries.items)))
 
-  pub takes : (size : B → ℕ) (start after : Ledger B) (step : Turn) (found : Option PacketPlace) (middle : List (JournalEntry B)) (entry : JournalEntry B) → IsLedger size start →
+  pub takes : {G : Type 0} (size : B → ℕ) (start after : Ledger B G) (step : Turn) (found : Option PacketPlace) (middle : List (JournalEntry B)) (entry : JournalEntry B) → IsLedger size start →
       IsFound start.entries.items found (found_in step (pool (past start.entries.items))) →
       Waits size start.entries.items (pool (entry_of step (past start.entries.items) ∷ past start.entries.items)) after.queues after.waiting → after.posted ≡ start.posted →
-      entry ≡ entry_by step found → middle ≡ start.entries.items → after.entries.items ≡ middle ++ entry ∷ [] → vec_len after.entries < vec_capacity after.entries → IsTaken start after size found step
-  takes size start after step found middle entry kept found_is waits posted_are entry_is middle_is entries_are room =
+      entry ≡ entry_by step found → middle ≡ start.entries.items → after.entries.items ≡ middle ++ entry ∷ [] → after.entries.coming ≡ [] → after.entries.next ≡ start.entries.next → 0 < after.entries.room → IsTaken start after size found step
+  takes size start after step found middle entry kept found_is waits posted_are entry_is middle_is entries_are coming_are next_is room =
       let before = past start.entries.items in
       let same : entry ≡ entry_of step before = entry_is ∙ entry_by-entry_of start.entries.items before step found found_is in
       let now : after.entries.items ≡ start.entries.items ++ entry_of step before ∷ [] = entries_are ∙ ap (λ es. es ++ entry ∷ []) middle_is ∙ ap (λ e. start.entries.items ++ e ∷ []) same in
@@ -136,19 +140,23 @@ module _ {B : Type 0} where
         kept = record {
           kept = rw (past_now, posted_are) (IsKept-input size before start.posted.letters start.posted.bytes step kept.kept);
           waits = rw (past_now, now) (Waits-later size start.entries.items (entry_of step before ∷ []) (pool (entry_of step before ∷ before)) after.queues after.waiting waits);
+          coming = coming_are;
+          next = next_is ∙ kept.next ∙ ap (λ (s : Sums). s.letters) (sym posted_are);
           room = λ may. room;
         };
         found_is = rw now (found_later start.entries.items (entry_of step before ∷ []) found (found_in step (pool before)) found_is);
       }
 
   -- a ledger after the refusal of an input
-  pub refuses : (size : B → ℕ) (start after : Ledger B) (a : Actor) → IsLedger size start → after.entries.items ≡ start.entries.items ++ Refused a ∷ [] → after.queues ≡ start.queues → after.posted ≡ start.posted →
+  pub refuses : {G : Type 0} (size : B → ℕ) (start after : Ledger B G) (a : Actor) → IsLedger size start → after.entries.items ≡ start.entries.items ++ Refused a ∷ [] → after.entries.coming ≡ [] → after.entries.next ≡ start.entries.next → after.queues ≡ start.queues → after.posted ≡ start.posted →
       after.waiting ≡ start.waiting → IsLedger size after
-  refuses size start after a kept entries_are queues_are posted_are waiting_are =
+  refuses size start after a kept entries_are coming_are next_is queues_are posted_are waiting_are =
       let before = past start.entries.items in
       let past_now : past after.entries.items ≡ Refused a ∷ before = ap past entries_are ∙ past-push start.entries.items (Refused a) in
       record {
         kept = rw (past_now, posted_are) (IsKept-refused size before start.posted.letters start.posted.bytes a kept.kept);
         waits = rw (past_now, entries_are, queues_are, waiting_are) (Waits-later size start.entries.items (Refused a ∷ []) (pool before) start.queues start.waiting kept.waits);
+        coming = coming_are;
+        next = next_is ∙ kept.next ∙ ap (λ (s : Sums). s.letters) (sym posted_are);
         room = λ may. absurd (subst (λ (es : List (JournalEntry B)). MayBeRefused es) past_now may);
       }

@@ -1,5 +1,5 @@
 -- What a ledger keeps, and what a turn adds to it.
-use Rattle.std.specs.Prelude.{◌≡◌, ◌<◌, ◌≤◌, ◌⊎◌, ℕ, ◌+◌, ◌-◌, ◌^◌, min, List, ◌++◌, length, take, map, Option, Some, None, vec_len, vec_capacity}
+use Rattle.std.specs.Prelude.{◌≡◌, ◌<◌, ◌≤◌, ◌⊎◌, ℕ, ◌+◌, ◌-◌, ◌^◌, min, List, ◌++◌, length, [], take, map, Option, Some, None}
 use Rattle.journal.specs.declared.journal.Actor.{Actor}
 use Rattle.journal.specs.declared.journal.JournalEntry.{JournalEntry}
 use Rattle.journal.specs.declared.journal.JournalEntry.TheVariants.{Draw, Lose, Local, Idle}
@@ -55,16 +55,20 @@ IsRefusal size next total post OutOfMemory = Unit {0}
 IsRefusal size next total post (JournalFull bytes count) = IsPast size next total post bytes count
 
 -- nothing changed but what memory there is
-pub record IsUnchanged {B : Type 0} (before after : Ledger B) : Type 0 where
+pub record IsUnchanged {B G : Type 0} (before after : Ledger B G) : Type 0 where
   pub entries_same : after.entries.items ≡ before.entries.items
+  pub coming_same : after.entries.coming ≡ before.entries.coming
+  pub next_same : after.entries.next ≡ before.entries.next
   pub queues_same : (a : Actor) → queue_of after.queues a ≡ queue_of before.queues a
   pub order_same : after.queues.order ≡ before.queues.order
   pub posted_same : after.posted ≡ before.posted
   pub waiting_same : after.waiting ≡ before.waiting
 
 -- the letters of an outbox that find room have come into the queues
-pub record IsReady {B : Type 0} (size : B → ℕ) (a : Actor) (letters : List (Letter B)) (before after : Ledger B) (ready : Ready) : Type 0 where
+pub record IsReady {B G : Type 0} (size : B → ℕ) (a : Actor) (letters : List (Letter B)) (before after : Ledger B G) (ready : Ready) : Type 0 where
   pub entries_same : after.entries.items ≡ before.entries.items
+  pub coming_is : after.entries.coming ≡ letters
+  pub next_same : after.entries.next ≡ before.entries.next
   pub posted_same : after.posted ≡ before.posted
   pub count : ℕ
   pub count_is : count ≡ fitting_count size before.waiting.letters before.waiting.bytes letters
@@ -85,7 +89,9 @@ pub record Waits {B : Type 0} (size : B → ℕ) (journal : List (JournalEntry B
   pub queues_are : (a : Actor) → ArePlacesOf journal (queue_of queues a) (waiting a packets)
 
 -- what a ledger keeps beside its entries: behind an input that may want memory there is room for the entry that says so
-pub record IsLedger {B : Type 0} (size : B → ℕ) (ledger : Ledger B) : Type 0 where
+pub record IsLedger {B G : Type 0} (size : B → ℕ) (ledger : Ledger B G) : Type 0 where
   pub kept : IsKept size (past ledger.entries.items) ledger.posted.letters ledger.posted.bytes
   pub waits : Waits size ledger.entries.items (pool (past ledger.entries.items)) ledger.queues ledger.waiting
-  pub room : MayBeRefused (past ledger.entries.items) → vec_len ledger.entries < vec_capacity ledger.entries
+  pub coming : ledger.entries.coming ≡ []
+  pub next : ledger.entries.next ≡ ledger.posted.letters
+  pub room : MayBeRefused (past ledger.entries.items) → 0 < ledger.entries.room

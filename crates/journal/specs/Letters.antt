@@ -5,6 +5,6 @@ use Rattle.journal.specs.declared.letters.OneOrMany.{OneOrMany}
 use Rattle.journal.specs.declared.letters.OneOrMany.TheVariants.{One, Many}
 
 -- the letters, in order
-abbrev pub letters_in : {B : Type 0} → OneOrMany B → List (Letter B)
-letters_in (One letter) = letter ∷ []
-letters_in (Many letters) = letters.items
+abbrev pub letters_held : {B : Type 0} → OneOrMany B → List (Letter B)
+letters_held (One letter) = letter ∷ []
+letters_held (Many letters) = letters.items

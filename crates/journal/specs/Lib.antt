@@ -13,3 +13,5 @@ pub mod Answers
 pub mod Letters
 pub mod Ledger
 pub mod Memory
+pub mod Mailbags
+pub mod Entries

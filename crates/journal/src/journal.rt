@@ -1,12 +1,12 @@
 //! The journal of a run, and what its entries hold.
-ghost use Rattle.std.specs.Prelude.{◌≡◌, ℕ, [], ◌∷◌, IfOk, length};
+ghost use Rattle.std.specs.Prelude.{◌≡◌, ◌<◌, ◌++◌, ℕ, List, [], ◌∷◌, length, take, slice_get, IfOk, IfSome, OnOk, OnErr};
 ghost use Rattle.journal.specs.Actors.{same_actor};
 ghost use Rattle.journal.specs.Turns.{turn_actor};
 
 use crate::letters::Letters;
+use crate::packed::Packed;
 use of_types::{Items, Octets};
-use std::alloc::AllocError;
-use std::slice;
+use std::alloc::{AllocError, Global};
 
 /// A controller or a switch, by its number.
 #[derive(Clone, Copy, PartialEq, Eq, Debug)]
@@ -180,37 +180,112 @@ impl Turn {
     }
 }
 
-/// A body that has a size and can be copied.
+/// A body that has a size, and a form in which many letters with such bodies are kept.
 pub trait Weight: Drop {
+    ghost use Rattle.journal.specs.declared.journal.Letter.{Letter};
+
     /// Its size in bytes.
     ghost size: { Self → ℕ };
 
-    /// Its size in bytes.
-    fn size(&self) -> u64
-        ensures { result ≡ size self.now };
+    /// Letters with such bodies, in order.
+    type Bag: Drop;
 
-    /// An equal body.
-    fn copy(&self) -> Result<Self, AllocError>
-        ensures { IfOk result (λ copied. copied ≡ self.now) };
+    /// The letters of a bag.
+    ghost letters: { Self.Bag → List (Letter Self) };
 
-    /// A letter as a list of one. Only where the body is known, its size is known to fit.
-    fn alone(letter: &Letter<Self>) -> &[Letter<Self>]
-        ensures { result.now ≡ letter.now ∷ [] };
+    /// No letter, which takes no memory.
+    fn bag(alloc: Global) -> Self::Bag
+        ensures { letters result ≡ [] };
+
+    /// Makes memory for the first letters of a journal. It does nothing where letters are there.
+    fn make_room(bag: &mut Self::Bag) -> Result<(), AllocError>
+        ensures { letters bag.new ≡ letters bag.old };
+
+    /// How many letters there are.
+    fn count(bag: &Self::Bag) -> usize
+        ensures { result ≡ length (letters bag.now) };
+
+    /// To whom a letter goes.
+    fn receiver(bag: &Self::Bag, index: usize) -> Actor
+        requires { index < length (letters bag.now) }
+        ensures { IfSome (slice_get (letters bag.now) index) (λ letter. result ≡ letter.to) };
+
+    /// The size of a letter's body, in bytes.
+    fn size_at(bag: &Self::Bag, index: usize) -> u64
+        requires { index < length (letters bag.now) }
+        ensures { IfSome (slice_get (letters bag.now) index) (λ letter. result ≡ size letter.body) };
+
+    /// Adds a copy of one letter. An `Err` changes nothing.
+    fn copy(bag: &mut Self::Bag, from: &Self::Bag, index: usize) -> Result<(), AllocError>
+        requires { index < length (letters from.now) }
+        ensures ok { OnOk result (IfSome (slice_get (letters from.now) index) (λ letter. letters bag.new ≡ letters bag.old ++ letter ∷ [])) }
+        ensures err { OnErr result (letters bag.new ≡ letters bag.old) };
+
+    /// Adds a letter with the body of one that is there. An `Err` changes nothing.
+    fn repeat(bag: &mut Self::Bag, to: Actor, index: usize) -> Result<(), AllocError>
+        requires { index < length (letters bag.old) }
+        ensures ok { OnOk result (IfSome (slice_get (letters bag.old) index) (λ letter. letters bag.new ≡ letters bag.old ++ record { to = to; body = letter.body } ∷ [])) }
+        ensures err { OnErr result (letters bag.new ≡ letters bag.old) };
+
+    /// Adds copies of letters. An `Err` changes nothing.
+    fn append(bag: &mut Self::Bag, more: &Self::Bag) -> Result<(), AllocError>
+        ensures ok { OnOk result (letters bag.new ≡ letters bag.old ++ letters more.now) }
+        ensures err { OnErr result (letters bag.new ≡ letters bag.old) };
+
+    /// Takes the letters behind so many out.
+    fn truncate(bag: &mut Self::Bag, count: usize)
+        ensures { letters bag.new ≡ take count (letters bag.old) };
+
+    /// The letters, each with a body of its own.
+    fn into_letters(bag: Self::Bag) -> Result<Vec<Letter<Self>>, AllocError>
+        ensures { IfOk result (λ each. each.items ≡ letters bag) };
 }
 
 impl Weight for Octets {
     ghost size = { λ bytes. length bytes };
 
-    fn size(&self) -> u64 {
-        self.len() as u64
+    type Bag = Packed;
+
+    ghost letters = { λ letters. letters };
+
+    fn bag(alloc: Global) -> Packed {
+        Packed::new(alloc)
     }
 
-    fn copy(&self) -> Result<Octets, AllocError> {
-        self.clone()
+    fn make_room(bag: &mut Packed) -> Result<(), AllocError> {
+        bag.make_room()
     }
 
-    fn alone(letter: &Letter<Octets>) -> &[Letter<Octets>] {
-        slice::from_ref(letter)
+    fn count(bag: &Packed) -> usize {
+        bag.len()
+    }
+
+    fn receiver(bag: &Packed, index: usize) -> Actor {
+        bag.receiver(index)
+    }
+
+    fn size_at(bag: &Packed, index: usize) -> u64 {
+        bag.size(index)
+    }
+
+    fn copy(bag: &mut Packed, from: &Packed, index: usize) -> Result<(), AllocError> {
+        bag.copy(from, index)
+    }
+
+    fn repeat(bag: &mut Packed, to: Actor, index: usize) -> Result<(), AllocError> {
+        bag.repeat(to, index)
+    }
+
+    fn append(bag: &mut Packed, more: &Packed) -> Result<(), AllocError> {
+        bag.append(more)
+    }
+
+    fn truncate(bag: &mut Packed, count: usize) {
+        bag.truncate(count);
+    }
+
+    fn into_letters(bag: Packed) -> Result<Vec<Letter<Octets>>, AllocError> {
+        bag.into_letters()
     }
 }
 

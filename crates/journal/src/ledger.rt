@@ -1,6 +1,8 @@
 //! A journal beside the queues of what waits, and the two steps of a turn on it.
-ghost use Rattle.std.specs.Prelude.{◌≡◌, ◌<◌, ◌≤◌, ◌⊎◌, ◌+◌, ◌-◌, ◌++◌, [], ◌∷◌, length, vec_len, vec_capacity, true, false, IfOk, IfErr, OnOk};
+ghost use Rattle.std.specs.Prelude.{◌≡◌, ◌<◌, ◌≤◌, ◌⊎◌, ◌+◌, ◌-◌, ◌++◌, [], ◌∷◌, length, true, false, IfOk, IfErr, OnOk};
 ghost use Rattle.journal.specs.Answers.{RefusedBy};
+ghost use Rattle.journal.specs.Entries.{IsBare, entry_without};
+ghost use Rattle.journal.specs.declared.journal.JournalEntry.{JournalEntry};
 ghost use Rattle.journal.specs.declared.journal.JournalEntry.TheVariants as entries;
 ghost use Rattle.journal.specs.declared.journal.Turn.TheVariants as turn;
 ghost use Rattle.journal.specs.Limits.{letters_limit, bytes_limit};
@@ -10,12 +12,13 @@ ghost use Rattle.journal.specs.Pool.{past, pool, pick};
 ghost use Rattle.journal.specs.Refusals.{MayBeRefused};
 ghost use Rattle.journal.specs.Turns.{posting, drawn_entry, entry_of};
 
-use crate::journal::{Actor, JournalEntry, Letter, Turn, Weight};
-use crate::letters::Letters;
-use crate::place::{PacketPlace, body_at};
+use crate::entries::{Entries, Head};
+use crate::journal::{Actor, Turn, Weight};
+use crate::mailbag::Mailbag;
+use crate::place::PacketPlace;
 use crate::pool::{self, Sums};
 use crate::queues::Queues;
-use crate::wire::{BYTES_LIMIT, LETTERS_LIMIT, Refused, Stop};
+use crate::wire::{BYTES_LIMIT, LETTERS_LIMIT, Stop};
 use std::alloc::{AllocError, Global};
 
 /// What is to be written of a post: how many letters are lost, and the sums with it.
@@ -29,9 +32,9 @@ pub struct Ready {
 /// A journal beside the queues of the packets that wait, and the sums of what it posts and of what
 /// waits. Bodies stand in the journal alone.
 #[derive(Drop)]
-pub struct Ledger<B> {
-    /// The journal, the oldest entry first.
-    pub entries: Vec<JournalEntry<B>>,
+pub struct Ledger<B: Weight> {
+    /// The journal, the oldest entry first, with no post that is to come.
+    pub entries: Entries<B>,
     /// The packets that wait, by the place of their bodies in the journal.
     pub queues: Queues,
     /// The letters that the entries post, and the bytes of their bodies.
@@ -49,7 +52,7 @@ fn is_past_limit(bytes: u64, letters: u64) -> bool
 }
 
 /// The sums with those of an outbox, where they pass no limit.
-fn sums_with<B: Weight>(sums: Sums, letters: &[Letter<B>]) -> Result<Sums, Stop>
+fn sums_with<B: Weight>(sums: Sums, letters: &Mailbag<B>) -> Result<Sums, Stop>
     ensures ok { IfOk result (IsSummed B.size sums.letters sums.bytes letters.now) }
     ensures err { IfErr result (IsRefusal B.size sums.letters sums.bytes letters.now) }
 {
@@ -62,26 +65,27 @@ fn sums_with<B: Weight>(sums: Sums, letters: &[Letter<B>]) -> Result<Sums, Stop>
 }
 
 /// The entry of a step, by what it found.
-fn entry_by<B>(step: Turn, found: Option<PacketPlace>) -> JournalEntry<B>
-    ensures { result ≡ entry_by step found }
+fn entry_by<B>(step: Turn, found: Option<PacketPlace>) -> Head
+    ensures bare { IsBare result }
+    ensures is { ◌≡◌ {A = JournalEntry B} (entry_without result) (entry_by step found) }
 {
     match step {
         Turn::Draw { actor, keep, .. } => match found {
-            Some(place) => JournalEntry::Draw {
+            Some(place) => Head::Draw {
                 actor,
                 id: place.id,
                 keep,
             },
-            None => JournalEntry::Idle { actor },
+            None => Head::Idle { actor },
         },
         Turn::Lose { actor, .. } => match found {
-            Some(place) => JournalEntry::Lose {
+            Some(place) => Head::Lose {
                 actor,
                 id: place.id,
             },
-            None => JournalEntry::Idle { actor },
+            None => Head::Idle { actor },
         },
-        Turn::Local { actor, input } => JournalEntry::Local { actor, input },
+        Turn::Local { actor, input } => Head::Local { actor, input },
     }
 }
 
@@ -96,7 +100,7 @@ impl<B: Weight> Ledger<B> {
             bytes: 0,
         };
         Ledger {
-            entries: Vec::new(alloc),
+            entries: Entries::new(alloc),
             queues: Queues::new(alloc),
             posted: none,
             waiting: none,
@@ -105,19 +109,27 @@ impl<B: Weight> Ledger<B> {
 
     /// All of a post that may fail, with memory for its entry and `more` further ones. An `Err` changes
     /// nothing.
-    fn prepare(&mut self, actor: Actor, letters: &[Letter<B>], more: usize) -> Result<Ready, Stop>
+    fn prepare(&mut self, actor: Actor, letters: &Mailbag<B>, more: usize) -> Result<Ready, Stop>
         requires small { more ≤ 2 }
         requires kept { IsLedger B.size self.old }
         ensures ok { IfOk result (IsReady B.size actor letters.now self.old self.new) }
-        ensures room { OnOk result (vec_len self.new.entries + (1 + more) ≤ vec_capacity self.new.entries) }
-        ensures grows { (vec_len self.new.entries ≡ vec_len self.old.entries) × (vec_capacity self.old.entries ≤ vec_capacity self.new.entries) }
+        ensures room { OnOk result (1 + more ≤ self.new.entries.room) }
+        ensures grows { self.old.entries.room ≤ self.new.entries.room }
         ensures err { IfErr result (λ r. IsUnchanged self.old self.new × IsRefusal B.size self.old.posted.letters self.old.posted.bytes letters.now r) }
     {
         let posted = sums_with(self.posted, letters)?;
         self.entries.reserve(1 + more)?;
-        let (count, waiting) = pool::count_fitting(self.waiting, letters);
+        self.entries.prepare(letters)?;
+        let (count, waiting) = pool::count_fitting(
+            self.waiting,
+            letters,
+            posted.bytes - self.posted.bytes,
+        );
         let (entry, first) = (self.entries.len(), self.posted.letters);
-        self.queues.append(entry, first, actor, &letters[..count])?;
+        if let Err(error) = self.queues.append(entry, first, actor, letters, count) {
+            self.entries.forget();
+            return Err(Stop::from(error));
+        }
         let lost = (letters.len() - count) as u64;
         Ok(Ready {
             lost,
@@ -131,60 +143,43 @@ impl<B: Weight> Ledger<B> {
         requires kept { IsLedger B.size self.old }
         ensures kept { IsLedger B.size self.new }
         ensures entries { self.new.entries.items ≡ self.old.entries.items }
-        ensures room { OnOk result (vec_len self.new.entries + 2 ≤ vec_capacity self.new.entries) }
+        ensures room { OnOk result (2 ≤ self.new.entries.room) }
     {
         self.entries.reserve(2)
     }
 
-    /// Posts an outbox, with memory for `more` further entries. An `Err` changes nothing, and gives the
-    /// letters back. For an empty outbox nothing is done.
-    pub fn post(&mut self, actor: Actor, letters: Letters<B>, more: usize) -> Result<(), Refused<B>>
+    /// Posts an outbox, with memory for `more` further entries. An `Err` changes nothing. For an empty outbox nothing is done.
+    pub fn post(&mut self, actor: Actor, letters: &Mailbag<B>, more: usize) -> Result<(), Stop>
         requires small { more ≤ 2 }
         requires kept { IsLedger B.size self.old }
         ensures kept { IsLedger B.size self.new }
-        ensures ok { OnOk result (self.new.entries.items ≡ self.old.entries.items ++ posting B.size actor letters (past self.old.entries.items)) }
-        ensures room { OnOk result (vec_len self.new.entries + more ≤ vec_capacity self.new.entries) }
-        ensures err { IfErr result (λ r. (self.new.entries.items ≡ self.old.entries.items) × (r.post ≡ letters) × RefusedBy B.size r.cause letters (past self.old.entries.items)) }
+        ensures ok { OnOk result (self.new.entries.items ≡ self.old.entries.items ++ posting B.size actor letters.now (past self.old.entries.items)) }
+        ensures room { OnOk result (more ≤ self.new.entries.room) }
+        ensures err { IfErr result (λ stop. (self.new.entries.items ≡ self.old.entries.items) × RefusedBy B.size stop letters.now (past self.old.entries.items)) }
     {
         if letters.is_empty() {
-            return match self.entries.reserve(more) {
-                Ok(()) => Ok(()),
-                Err(_) => Err(Refused {
-                    post: letters,
-                    cause: Stop::OutOfMemory,
-                }),
-            };
+            self.entries.reserve(more)?;
+            return Ok(());
         }
-        match self.prepare(actor, letters.as_slice(), more) {
-            Ok(ready) => {
-                self.write(actor, letters, ready);
-                Ok(())
-            }
-            Err(cause) => Err(Refused {
-                post: letters,
-                cause,
-            }),
-        }
+        let ready = self.prepare(actor, letters, more)?;
+        self.write(actor, ready);
+        Ok(())
     }
 
     /// Writes the entry of a post.
-    fn write(&mut self, actor: Actor, letters: Letters<B>, ready: Ready)
-        requires { vec_len self.old.entries < vec_capacity self.old.entries }
-        ensures entries { self.new.entries.items ≡ self.old.entries.items ++ entries.Post actor self.old.posted.letters letters ready.lost ∷ [] }
-        ensures room { vec_capacity self.new.entries + vec_len self.old.entries + 1 ≡ vec_capacity self.old.entries + vec_len self.new.entries }
+    fn write(&mut self, actor: Actor, ready: Ready)
+        requires { 0 < self.old.entries.room }
+        ensures entries { self.new.entries.items ≡ self.old.entries.items ++ entries.Post actor self.old.entries.next self.old.entries.coming ready.lost ∷ [] }
+        ensures coming { self.new.entries.coming ≡ [] }
+        ensures next { self.new.entries.next ≡ self.old.entries.next + length self.old.entries.coming }
+        ensures room { self.new.entries.room + 1 ≡ self.old.entries.room }
         ensures queues { self.new.queues ≡ self.old.queues }
         ensures posted { self.new.posted ≡ ready.posted }
         ensures waiting { self.new.waiting ≡ ready.waiting }
     {
-        let first = self.posted.letters;
         self.posted = ready.posted;
         self.waiting = ready.waiting;
-        self.entries.push_reserved(JournalEntry::Post {
-            actor,
-            first,
-            letters,
-            lost: ready.lost,
-        });
+        self.entries.post(actor, ready.lost);
     }
 
     /// The packet of a choice, which waits no more, unless it is kept.
@@ -198,7 +193,7 @@ impl<B: Weight> Ledger<B> {
         let found = self.queues.pick(actor, choice, keep)?;
         if !keep {
             self.waiting.letters -= 1;
-            self.waiting.bytes -= body_at(self.entries.as_slice(), found).size();
+            self.waiting.bytes -= self.entries.size(found);
         }
         Some(found)
     }
@@ -233,20 +228,20 @@ impl<B: Weight> Ledger<B> {
     /// Takes a step, and gives what it finds. There is memory for the entry, and for that of a refusal.
     #[inline(always)]
     pub fn take(&mut self, step: Turn) -> Option<PacketPlace>
-        requires room { vec_len self.old.entries + 2 ≤ vec_capacity self.old.entries }
+        requires room { 2 ≤ self.old.entries.room }
         requires kept { IsLedger B.size self.old }
         ensures kept { IsLedger B.size self.new }
         ensures entries { self.new.entries.items ≡ self.old.entries.items ++ entry_of step (past self.old.entries.items) ∷ [] }
         ensures found { IsFound self.new.entries.items result (found_in step (pool (past self.old.entries.items))) }
     {
         let found = self.find(&step);
-        self.entries.push_reserved(entry_by(step, found));
+        self.entries.push(entry_by::<B>(step, found));
         found
     }
 
     /// Takes a draw, as `take` does.
     pub fn draw(&mut self, actor: Actor, choice: u64, keep: bool)
-        requires room { vec_len self.old.entries + 2 ≤ vec_capacity self.old.entries }
+        requires room { 2 ≤ self.old.entries.room }
         requires kept { IsLedger B.size self.old }
         ensures kept { IsLedger B.size self.new }
         ensures entries { self.new.entries.items ≡ self.old.entries.items ++ entry_of (turn.Draw actor choice keep) (past self.old.entries.items) ∷ [] }
@@ -257,7 +252,7 @@ impl<B: Weight> Ledger<B> {
             choice,
             keep,
         };
-        self.entries.push_reserved(entry_by(step, found));
+        self.entries.push(entry_by::<B>(step, found));
     }
 
     /// The input of the newest entry found no memory. There is memory for this entry.
@@ -267,6 +262,6 @@ impl<B: Weight> Ledger<B> {
         ensures kept { IsLedger B.size self.new }
         ensures entries { self.new.entries.items ≡ self.old.entries.items ++ entries.Refused actor ∷ [] }
     {
-        self.entries.push_reserved(JournalEntry::Refused { actor });
+        self.entries.push(Head::Refused { actor });
     }
 }

@@ -1,10 +1,12 @@
 //! The letters of one outbox, which contracts see as the list of them.
 ghost use Rattle.std.specs.Prelude.{◌≡◌, [], ◌∷◌, length, ◌==◌};
-ghost use Rattle.journal.specs.Letters.{letters_in};
+ghost use Rattle.journal.specs.Letters.{letters_held};
 
-use crate::journal::{Letter, Weight};
+use crate::journal::Letter;
+use of_types::Octets;
 use std::alloc::Global;
 use std::marker::Model;
+use std::slice;
 
 /// The letters of one outbox, in order. One letter, as most outboxes have, takes no list of its own.
 #[derive(Drop)]
@@ -22,11 +24,11 @@ pub enum OneOrMany<B> {
 impl<B> Model for Letters<B> {
     ghost use Rattle.std.specs.Prelude.{List};
     ghost use Rattle.journal.specs.declared.journal.Letter.{Letter};
-    ghost use Rattle.journal.specs.Letters.{letters_in};
+    ghost use Rattle.journal.specs.Letters.{letters_held};
 
     ghost Value = { List (Letter B) };
 
-    ghost view = { λ l. letters_in l.letters };
+    ghost view = { λ l. letters_held l.letters };
 }
 
 impl<B> Letters<B> {
@@ -57,14 +59,14 @@ impl<B> Letters<B> {
 
     /// The letters as `into_inner` gave them, which takes no memory.
     pub fn from_inner(letters: OneOrMany<B>) -> Letters<B>
-        ensures { result ≡ letters_in letters }
+        ensures { result ≡ letters_held letters }
     {
         Letters { letters }
     }
 
     /// Gives the letters as they are kept, which takes no memory.
     pub fn into_inner(self) -> OneOrMany<B>
-        ensures { letters_in result ≡ self }
+        ensures { letters_held result ≡ self }
     {
         self.letters
     }
@@ -85,13 +87,13 @@ impl<B> Letters<B> {
     }
 }
 
-impl<B: Weight> Letters<B> {
+impl Letters<Octets> {
     /// The letters, in order.
-    pub fn as_slice(&self) -> &[Letter<B>]
+    pub fn as_slice(&self) -> &[Letter<Octets>]
         ensures { result.now ≡ self.now }
     {
         match &self.letters {
-            OneOrMany::One(letter) => B::alone(letter),
+            OneOrMany::One(letter) => slice::from_ref(letter),
             OneOrMany::Many(letters) => letters.as_slice(),
         }
     }

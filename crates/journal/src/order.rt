@@ -1,8 +1,9 @@
 //! The order in which packets wait.
-ghost use Rattle.std.specs.Prelude.{◌≡◌, ◌<◌, ◌≤◌, ◌+◌, ◌^◌, ◌++◌, [], length, map, slice_get, option_map, vec_len, vec_capacity, Some, OnOk, OnErr};
+ghost use Rattle.std.specs.Prelude.{◌≡◌, ◌<◌, ◌≤◌, ◌+◌, ◌^◌, ◌++◌, [], length, take, map, slice_get, option_map, vec_len, vec_capacity, Some, OnOk, OnErr};
 ghost use Rattle.journal.specs.Order.{addressed, without_packet, HaveNumbersBelow, IsClearBelow, IsLowest};
 
-use crate::journal::{Actor, Letter};
+use crate::journal::{Actor, Weight};
+use crate::mailbag::Mailbag;
 use std::alloc::{AllocError, Global};
 use std::marker::Model;
 
@@ -39,13 +40,14 @@ fn lowest_from(slots: &[Option<Actor>], number: usize) -> usize
     lowest
 }
 
-/// Adds a slot for each letter. There is memory for them.
-fn push_each<B>(slots: &mut Vec<Option<Actor>>, letters: &[Letter<B>])
-    requires { vec_len slots.old + length letters.now ≤ vec_capacity slots.old }
-    ensures { slots.new.items ≡ slots.old.items ++ map (λ letter. Some letter.to) letters.now }
+/// Adds a slot for each of so many letters. There is memory for them.
+fn push_each<B: Weight>(slots: &mut Vec<Option<Actor>>, letters: &Mailbag<B>, count: usize)
+    requires within { count ≤ length letters.now }
+    requires room { vec_len slots.old + count ≤ vec_capacity slots.old }
+    ensures { slots.new.items ≡ slots.old.items ++ map (λ letter. Some letter.to) (take count letters.now) }
 {
-    for letter in letters {
-        slots.push_reserved(Some(letter.to));
+    for index in 0..count {
+        slots.push_reserved(Some(letters.receiver(index)));
     }
 }
 
@@ -60,19 +62,24 @@ impl Order {
         }
     }
 
-    /// Adds letters, numbered from there on, above all that wait. An `Err` changes nothing.
-    pub fn append<B>(&mut self, number: u64, letters: &[Letter<B>]) -> Result<(), AllocError>
-        requires small { number + length letters.now < 2 ^ 64 }
+    /// Adds so many letters, numbered from there on, above all that wait. An `Err` changes nothing.
+    pub fn append<B: Weight>(
+        &mut self,
+        number: u64,
+        letters: &Mailbag<B>,
+        count: usize,
+    ) -> Result<(), AllocError>
+        requires within { count ≤ length letters.now }
         requires above { HaveNumbersBelow number self.old }
-        ensures ok { OnOk result (self.new ≡ self.old ++ addressed number letters.now) }
+        ensures ok { OnOk result (self.new ≡ self.old ++ addressed number (take count letters.now)) }
         ensures err { OnErr result (self.new ≡ self.old) }
     {
         let number = number as usize;
         // The letters that were lost since have numbers too, and no receiver.
         self.slots.resize(number, None)?;
         self.lowest = lowest_from(self.slots.as_slice(), self.lowest.min(number));
-        self.slots.reserve(letters.len())?;
-        push_each(&mut self.slots, letters);
+        self.slots.reserve(count)?;
+        push_each(&mut self.slots, letters, count);
         Ok(())
     }
 

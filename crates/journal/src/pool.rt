@@ -3,7 +3,8 @@ ghost use Rattle.std.specs.Prelude.{◌≡◌, ◌≤◌, ◌+◌, ◌-◌, ◌^
 ghost use Rattle.journal.specs.Pool.{letter_bytes};
 ghost use Rattle.journal.specs.Orderly.{fitting_count};
 
-use crate::journal::{Letter, Weight};
+use crate::journal::Weight;
+use crate::mailbag::Mailbag;
 use crate::wire::{POOL_BYTES, POOL_PACKETS};
 
 /// How many letters, and how many bytes their bodies have.
@@ -14,27 +15,46 @@ pub struct Sums {
 }
 
 /// The bytes of the letters' bodies, stopped at the greatest number.
-pub fn letters_size<B: Weight>(letters: &[Letter<B>]) -> u64
+pub fn letters_size<B: Weight>(letters: &Mailbag<B>) -> u64
     ensures { result ≡ min (2 ^ 64 - 1) (letter_bytes B.size letters.now) }
 {
     let mut size = 0u64;
-    for letter in letters {
-        size = size.saturating_add(letter.body.size());
+    for index in 0..letters.len() {
+        size = size.saturating_add(letters.size(index));
     }
     size
 }
 
-/// How many letters come before the first one with no room beside the packets that wait, and the sums
+/// How many letters, which have so many bytes, come before the first one with no room beside the packets that wait, and the sums
 /// of what waits then.
-pub fn count_fitting<B: Weight>(waiting: Sums, letters: &[Letter<B>]) -> (usize, Sums)
+pub fn count_fitting<B: Weight>(waiting: Sums, letters: &Mailbag<B>, bytes: u64) -> (usize, Sums)
+    requires { bytes ≡ letter_bytes B.size letters.now }
+    ensures count { result.0 ≡ fitting_count B.size waiting.letters waiting.bytes letters.now }
+    ensures within { result.0 ≤ length letters.now }
+    ensures letters { result.1.letters ≡ waiting.letters + result.0 }
+    ensures bytes { result.1.bytes ≡ waiting.bytes + letter_bytes B.size (take result.0 letters.now) }
+{
+    let count = letters.len();
+    let sums = Sums {
+        letters: waiting.letters.saturating_add(count as u64),
+        bytes: waiting.bytes.saturating_add(bytes),
+    };
+    if sums.letters <= POOL_PACKETS as u64 && sums.bytes <= POOL_BYTES {
+        return (count, sums);
+    }
+    count_first(waiting, letters)
+}
+
+/// The same, letter by letter.
+fn count_first<B: Weight>(waiting: Sums, letters: &Mailbag<B>) -> (usize, Sums)
     ensures count { result.0 ≡ fitting_count B.size waiting.letters waiting.bytes letters.now }
     ensures within { result.0 ≤ length letters.now }
     ensures letters { result.1.letters ≡ waiting.letters + result.0 }
     ensures bytes { result.1.bytes ≡ waiting.bytes + letter_bytes B.size (take result.0 letters.now) }
 {
     let mut sums = waiting;
-    for (count, letter) in letters.iter().enumerate() {
-        let size = letter.body.size();
+    for count in 0..letters.len() {
+        let size = letters.size(count);
         if sums.letters >= POOL_PACKETS as u64 || sums.bytes.saturating_add(size) > POOL_BYTES {
             return (count, sums);
         }

@@ -1,10 +1,11 @@
 //! The packets that wait, in a queue for each actor.
-ghost use Rattle.std.specs.Prelude.{◌≡◌, ℕ, ◌<◌, ◌+◌, ◌-◌, ◌^◌, ◌%◌, ◌++◌, [], ◌∷◌, nat_eq, length, take, drop, get_or, filter, slice_get, OnOk, OnErr, Option, if◌then◌else◌};
+ghost use Rattle.std.specs.Prelude.{◌≡◌, ℕ, ◌<◌, ◌≤◌, ◌+◌, ◌-◌, ◌^◌, ◌%◌, ◌++◌, [], ◌∷◌, nat_eq, length, take, drop, get_or, filter, slice_get, OnOk, OnErr, Option, if◌then◌else◌};
 ghost use Rattle.journal.specs.Actors.{same_actor};
 ghost use Rattle.journal.specs.Order.{addressed, order_left, HaveNumbersBelow};
 ghost use Rattle.journal.specs.Places.{placed, queue_of, left_in, picked, sent_to, letters_to, first_of};
 
-use crate::journal::{Actor, Letter};
+use crate::journal::{Actor, Weight};
+use crate::mailbag::Mailbag;
 use crate::order::Order;
 use crate::place::PacketPlace;
 use std::alloc::{AllocError, Global};
@@ -102,7 +103,9 @@ impl Row {
     {
         let index = number as usize;
         self.reach(index)?;
-        self.queues[index].push_back(place)?;
+        let queue = &mut self.queues[index];
+        queue.reserve(1)?;
+        queue.push_back_reserved(place);
         Ok(())
     }
 
@@ -187,63 +190,68 @@ impl Queues {
         }
     }
 
-    /// For each letter, takes the last packet of its receiver away.
-    fn pop_each<B>(&mut self, letters: &[Letter<B>])
-        ensures queues { (a : Actor) → queue_of self.new a ≡ take (length (queue_of self.old a) - length (letters_to a letters.now)) (queue_of self.old a) }
+    /// For each of so many letters, takes the last packet of its receiver away.
+    fn pop_each<B: Weight>(&mut self, letters: &Mailbag<B>, count: usize)
+        requires { count ≤ length letters.now }
+        ensures queues { (a : Actor) → queue_of self.new a ≡ take (length (queue_of self.old a) - length (letters_to a (take count letters.now))) (queue_of self.old a) }
         ensures order { self.new.order ≡ self.old.order }
     {
-        for letter in letters {
-            self.pop(letter.to);
+        for index in 0..count {
+            self.pop(letters.receiver(index));
         }
     }
 
-    /// Adds the letters to the queues of their receivers, as `append` does.
-    fn push_each<B>(
+    /// Adds so many letters to the queues of their receivers, as `append` does.
+    fn push_each<B: Weight>(
         &mut self,
         entry: usize,
         first: u64,
         from: Actor,
-        letters: &[Letter<B>],
+        letters: &Mailbag<B>,
+        count: usize,
     ) -> Result<(), AllocError>
-        requires { first + length letters.now < 2 ^ 64 }
-        ensures ok { OnOk result ((a : Actor) → queue_of self.new a ≡ queue_of self.old a ++ sent_to a (placed entry 0 first from letters.now)) }
+        requires within { count ≤ length letters.now }
+        requires small { first + count < 2 ^ 64 }
+        ensures ok { OnOk result ((a : Actor) → queue_of self.new a ≡ queue_of self.old a ++ sent_to a (placed entry 0 first from (take count letters.now))) }
         ensures err { OnErr result ((a : Actor) → queue_of self.new a ≡ queue_of self.old a) }
         ensures order { self.new.order ≡ self.old.order }
     {
-        for (letter, sent) in letters.iter().enumerate() {
+        for letter in 0..count {
             let place = PacketPlace {
                 id: first + letter as u64,
                 from,
-                to: sent.to,
+                to: letters.receiver(letter),
                 entry,
                 letter,
             };
             if let Err(error) = self.push(place) {
-                self.pop_each(&letters[..letter]);
+                self.pop_each(letters, letter);
                 return Err(error);
             }
         }
         Ok(())
     }
 
-    /// Adds the letters of the post at this entry, numbered from `first` on. An `Err` changes no queue.
-    pub fn append<B>(
+    /// Adds so many letters of the post at this entry, numbered from `first` on. An `Err` changes no queue.
+    pub fn append<B: Weight>(
         &mut self,
         entry: usize,
         first: u64,
         from: Actor,
-        letters: &[Letter<B>],
+        letters: &Mailbag<B>,
+        count: usize,
     ) -> Result<(), AllocError>
-        requires small { first + length letters.now < 2 ^ 64 }
+        requires within { count ≤ length letters.now }
+        requires small { first + count < 2 ^ 64 }
         requires above { HaveNumbersBelow first self.old.order }
-        ensures ok { OnOk result ((a : Actor) → queue_of self.new a ≡ queue_of self.old a ++ sent_to a (placed entry 0 first from letters.now)) }
+        ensures ok { OnOk result ((a : Actor) → queue_of self.new a ≡ queue_of self.old a ++ sent_to a (placed entry 0 first from (take count letters.now))) }
         ensures err { OnErr result ((a : Actor) → queue_of self.new a ≡ queue_of self.old a) }
-        ensures order_ok { OnOk result (self.new.order ≡ self.old.order ++ addressed first letters.now) }
+        ensures order_ok { OnOk result (self.new.order ≡ self.old.order ++ addressed first (take count letters.now)) }
         ensures order_err { OnErr result (self.new.order ≡ self.old.order) }
     {
-        self.push_each(entry, first, from, letters)?;
-        if let Err(error) = self.order.append(first, letters) {
-            self.pop_each(letters);
+        self.push_each(entry, first, from, letters, count)?;
+        if let Err(error) = self.order.append(first, letters, count) {
+            self.pop_each(letters, count);
             return Err(error);
         }
         Ok(())

@@ -1,21 +1,23 @@
 //! The journal beside the queues of what waits: what one turn of an actor adds to it.
-ghost use Rattle.std.specs.Prelude.{◌≡◌, [], ◌∷◌, ◌++◌, slice_get, OnOk, IfOk, IfErr, OnErr, IfSome, IsSome};
+ghost use Rattle.std.specs.Prelude.{◌≡◌, [], ◌∷◌, ◌++◌, length, map, slice_get, OnOk, IfOk, IfErr, OnErr, IfSome, IsSome};
 ghost use Rattle.journal.specs.Pool.{past, pool, pick};
 ghost use Rattle.journal.specs.Orderly.{IsOrderly};
 ghost use Rattle.journal.specs.Refusals.{MayBeRefused};
 ghost use Rattle.journal.specs.Turns.{entry_of, posting, posted, turn_actor, turn_entries, IsWithinLimits};
 ghost use Rattle.journal.specs.Answers.{RefusedBy};
+ghost use Rattle.journal.specs.Entries.{head_of};
+ghost use Rattle.journal.specs.Mailbags.{HasBody};
 ghost use Rattle.journal.specs.Places.{packet_at, IsFound};
 ghost use Rattle.journal.specs.Ledger.{found_in};
 ghost use Rattle.journal.specs.declared.journal.JournalEntry.TheVariants as entries;
 ghost use Rattle.journal.specs.declared.journal.Turn.TheVariants as turn;
 ghost use Rattle.journal.specs.declared.wire.Stop.TheVariants as refusals;
 
-use crate::journal::{Actor, Journal, JournalEntry, Local, Turn, Weight};
+use crate::entries::Head;
+use crate::journal::{Actor, Journal, Local, Turn, Weight};
 use crate::ledger::Ledger;
-use crate::letters::Letters;
-use crate::place::{PacketPlace, body_at};
-use of_types::Items;
+use crate::mailbag::Mailbag;
+use crate::place::PacketPlace;
 use std::alloc::{AllocError, Global};
 use std::marker::Model;
 
@@ -45,13 +47,6 @@ impl From<AllocError> for Stop {
     fn from(_: AllocError) -> Stop {
         Stop::OutOfMemory
     }
-}
-
-/// A turn that added nothing. The letters come back.
-#[derive(Drop)]
-pub struct Refused<B> {
-    pub post: Letters<B>,
-    pub cause: Stop,
 }
 
 /// A journal beside what waits, which contracts see as the list of its entries, the oldest first.
@@ -90,11 +85,18 @@ impl<B: Weight> Wire<B> {
         let _ = &self.ledger;
     }
 
-    /// The entries, the oldest first.
-    pub fn entries(&self) -> &[JournalEntry<B>]
-        ensures { result.now ≡ self.now }
+    /// How many entries there are.
+    pub fn len(&self) -> usize
+        ensures { result ≡ length self.now }
     {
-        self.ledger.entries.as_slice()
+        self.ledger.entries.len()
+    }
+
+    /// The entries without their letters, the oldest first.
+    pub fn heads(&self) -> &[Head]
+        ensures { result.now ≡ map head_of self.now }
+    {
+        self.ledger.entries.heads()
     }
 
     /// The packet of the lowest number that waits.
@@ -111,25 +113,25 @@ impl<B: Weight> Wire<B> {
         self.ledger.look(actor, choice)
     }
 
-    /// The body of the letter at a place that `draw`, `lose`, `look` or `first` gave. It stands from then on.
-    pub fn body(&self, place: PacketPlace) -> &B
+    /// All letters, and which of them is at a place that `draw`, `lose`, `look` or `first` gave. It stands from then on.
+    pub fn letter(&self, place: PacketPlace) -> (&Mailbag<B>, usize)
         requires { IsSome (packet_at place self.now) }
-        ensures { IfSome (packet_at place self.now) (λ packet. result.now ≡ packet.body) }
+        ensures { IfSome (packet_at place self.now) (λ packet. HasBody result.0.now result.1 packet.body) }
     {
-        body_at(self.ledger.entries.as_slice(), place)
+        self.ledger.entries.letter(place)
     }
 
-    /// Gives the journal. It takes no memory.
-    pub fn into_journal(self) -> Journal<B>
-        ensures { result ≡ self }
+    /// Gives the journal.
+    pub fn into_journal(self) -> Result<Journal<B>, AllocError>
+        ensures { IfOk result (λ journal. journal ≡ self) }
     {
-        Items::from_vec(self.ledger.entries)
+        self.ledger.entries.into_journal()
     }
 
     /// Posts an outbox.
-    pub fn post(&mut self, actor: Actor, post: Letters<B>) -> Result<(), Refused<B>>
-        ensures ok { OnOk result (self.new ≡ self.old ++ posting B.size actor post (past self.old)) }
-        ensures err { IfErr result (λ r. (self.new ≡ self.old) × (r.post ≡ post) × RefusedBy B.size r.cause post (past self.old)) }
+    pub fn post(&mut self, actor: Actor, post: &Mailbag<B>) -> Result<(), Stop>
+        ensures ok { OnOk result (self.new ≡ self.old ++ posting B.size actor post.now (past self.old)) }
+        ensures err { IfErr result (λ stop. (self.new ≡ self.old) × RefusedBy B.size stop post.now (past self.old)) }
     {
         self.ledger.post(actor, post, 0)
     }
@@ -155,18 +157,29 @@ impl<B: Weight> Wire<B> {
         Ok(())
     }
 
+    /// Loses the packet of a choice behind all that was posted, if one waits for the actor. An `Err` changes nothing.
+    #[inline]
+    pub fn take_loss(&mut self, actor: Actor, choice: u64) -> Result<(), AllocError>
+        ensures ok { OnOk result (self.new ≡ self.old ++ entry_of (turn.Lose actor choice) (past self.old) ∷ []) }
+        ensures err { OnErr result (self.new ≡ self.old) }
+    {
+        self.ledger.reserve()?;
+        let _ = self.ledger.take(Turn::Lose { actor, choice });
+        Ok(())
+    }
+
     /// Posts, and then draws the packet of a choice, if one waits for the actor. Where `keep`, it goes on
     /// waiting.
     pub fn draw(
         &mut self,
         actor: Actor,
-        post: Letters<B>,
+        post: &Mailbag<B>,
         choice: u64,
         keep: bool,
-    ) -> Result<Option<PacketPlace>, Refused<B>>
-        ensures ok { OnOk result (self.new ≡ self.old ++ turn_entries B.size post (turn.Draw actor choice keep) (past self.old)) }
-        ensures found { IfOk result (λ found. IsFound self.new found (pick actor choice (posted B.size actor post (past self.old)))) }
-        ensures err { IfErr result (λ r. (self.new ≡ self.old) × (r.post ≡ post) × RefusedBy B.size r.cause post (past self.old)) }
+    ) -> Result<Option<PacketPlace>, Stop>
+        ensures ok { OnOk result (self.new ≡ self.old ++ turn_entries B.size post.now (turn.Draw actor choice keep) (past self.old)) }
+        ensures found { IfOk result (λ found. IsFound self.new found (pick actor choice (posted B.size actor post.now (past self.old)))) }
+        ensures err { IfErr result (λ stop. (self.new ≡ self.old) × RefusedBy B.size stop post.now (past self.old)) }
     {
         self.turn(
             Turn::Draw {
@@ -182,30 +195,30 @@ impl<B: Weight> Wire<B> {
     pub fn lose(
         &mut self,
         actor: Actor,
-        post: Letters<B>,
+        post: &Mailbag<B>,
         choice: u64,
-    ) -> Result<Option<PacketPlace>, Refused<B>>
-        ensures ok { OnOk result (self.new ≡ self.old ++ turn_entries B.size post (turn.Lose actor choice) (past self.old)) }
-        ensures found { IfOk result (λ found. IsFound self.new found (pick actor choice (posted B.size actor post (past self.old)))) }
-        ensures err { IfErr result (λ r. (self.new ≡ self.old) × (r.post ≡ post) × RefusedBy B.size r.cause post (past self.old)) }
+    ) -> Result<Option<PacketPlace>, Stop>
+        ensures ok { OnOk result (self.new ≡ self.old ++ turn_entries B.size post.now (turn.Lose actor choice) (past self.old)) }
+        ensures found { IfOk result (λ found. IsFound self.new found (pick actor choice (posted B.size actor post.now (past self.old)))) }
+        ensures err { IfErr result (λ stop. (self.new ≡ self.old) × RefusedBy B.size stop post.now (past self.old)) }
     {
         self.turn(Turn::Lose { actor, choice }, post)
     }
 
     /// Posts, and then takes a local input, which is dropped at a refusal.
-    pub fn local(&mut self, actor: Actor, post: Letters<B>, input: Local) -> Result<(), Refused<B>>
-        ensures ok { OnOk result (self.new ≡ self.old ++ turn_entries B.size post (turn.Local actor input) (past self.old)) }
-        ensures err { IfErr result (λ r. (self.new ≡ self.old) × (r.post ≡ post) × RefusedBy B.size r.cause post (past self.old)) }
+    pub fn local(&mut self, actor: Actor, post: &Mailbag<B>, input: Local) -> Result<(), Stop>
+        ensures ok { OnOk result (self.new ≡ self.old ++ turn_entries B.size post.now (turn.Local actor input) (past self.old)) }
+        ensures err { IfErr result (λ stop. (self.new ≡ self.old) × RefusedBy B.size stop post.now (past self.old)) }
     {
         self.turn(Turn::Local { actor, input }, post)?;
         Ok(())
     }
 
     /// Posts, and then takes a step.
-    fn turn(&mut self, step: Turn, post: Letters<B>) -> Result<Option<PacketPlace>, Refused<B>>
-        ensures ok { OnOk result (self.new ≡ self.old ++ turn_entries B.size post step (past self.old)) }
-        ensures found { IfOk result (λ found. IsFound self.new found (found_in step (pool (posted B.size (turn_actor step) post (past self.old))))) }
-        ensures err { IfErr result (λ r. (self.new ≡ self.old) × (r.post ≡ post) × RefusedBy B.size r.cause post (past self.old)) }
+    fn turn(&mut self, step: Turn, post: &Mailbag<B>) -> Result<Option<PacketPlace>, Stop>
+        ensures ok { OnOk result (self.new ≡ self.old ++ turn_entries B.size post.now step (past self.old)) }
+        ensures found { IfOk result (λ found. IsFound self.new found (found_in step (pool (posted B.size (turn_actor step) post.now (past self.old))))) }
+        ensures err { IfErr result (λ stop. (self.new ≡ self.old) × RefusedBy B.size stop post.now (past self.old)) }
     {
         self.ledger.post(step.actor(), post, 2)?;
         Ok(self.ledger.take(step))

@@ -268,8 +268,7 @@ fn experimenter(alloc: Global, xid: u32, said: &Extension) -> Result<Octets, All
 {
     extension_fits(said);
     u32_fits(xid);
-    let bytes = framed(alloc, xid, said)?;
-    Ok(bytes)
+    framed(alloc, xid, said)
 }
 
 /// The bytes of what a controller and a switch say to each other, with the number of the request.
@@ -281,9 +280,8 @@ pub fn canonical(alloc: Global, xid: u32, said: &Spoken) -> Result<Octets, Alloc
     // They are as many as its size tells.
     ensures size { IfOk result (λ bytes. length bytes ≡ spoken_size said.now) }
 {
-    let bytes = match said {
-        Spoken::Plain(message) => encode(alloc, xid, message)?,
-        Spoken::Ravana(said) => experimenter(alloc, xid, said)?,
-    };
-    Ok(bytes)
+    match said {
+        Spoken::Plain(message) => encode(alloc, xid, message),
+        Spoken::Ravana(said) => experimenter(alloc, xid, said),
+    }
 }

@@ -1,9 +1,9 @@
 //! How bodies stand for messages.
-ghost use Rattle.std.specs.Prelude.{◌≡◌, IfOk};
+ghost use Rattle.std.specs.Prelude.{◌≡◌, ◌<◌, ◌++◌, [], ◌∷◌, length, slice_get, IfOk, IfSome, OnOk};
 ghost use Rattle.run_spec.specs.declared.messages.Message.TheVariants as message;
 ghost use Rattle.run_spec.specs.States.{Sealing, IsFaithful};
 
-use journal::Weight;
+use journal::{Actor, Mailbag, Weight};
 use of_types::{Octets, Spoken};
 use run_spec::{Message, Unsealed, Way};
 use std::alloc::{AllocError, Global};
@@ -14,21 +14,37 @@ pub trait Body: Weight {
     /// How such bodies stand for messages.
     ghost sealing: { Sealing Self };
 
-    /// The body of what a controller and a switch say to each other.
-    fn seal_spoken(alloc: Global, xid: u32, said: &Spoken) -> Result<Self, AllocError>
-        ensures { IfOk result (λ body. body ≡ sealing.sealed (message.Of xid said.now)) };
+    /// Adds a letter of what a controller and a switch say to each other.
+    fn seal_spoken(
+        bag: &mut Mailbag<Self>,
+        to: Actor,
+        xid: u32,
+        said: &Spoken,
+    ) -> Result<(), AllocError>
+        ensures { OnOk result (bag.new ≡ bag.old ++ record { to = to; body = sealing.sealed (message.Of xid said.now) } ∷ []) };
 
-    /// The body of what two controllers say to each other.
-    fn seal_vr(alloc: Global, said: &VrMessage) -> Result<Self, AllocError>
-        ensures { IfOk result (λ body. body ≡ sealing.sealed (message.Vr said.now)) };
+    /// Adds a letter of what two controllers say to each other.
+    fn seal_vr(bag: &mut Mailbag<Self>, to: Actor, said: &VrMessage) -> Result<(), AllocError>
+        ensures { OnOk result (bag.new ≡ bag.old ++ record { to = to; body = sealing.sealed (message.Vr said.now) } ∷ []) };
 
-    /// The body of a frame on a link.
-    fn seal_frame(alloc: Global, port: u32, frame: &Octets) -> Result<Self, AllocError>
-        ensures { IfOk result (λ body. body ≡ sealing.sealed (message.Frame port frame.now)) };
+    /// Adds a letter with a frame for a link.
+    fn seal_frame(
+        bag: &mut Mailbag<Self>,
+        to: Actor,
+        port: u32,
+        frame: &Octets,
+    ) -> Result<(), AllocError>
+        ensures { OnOk result (bag.new ≡ bag.old ++ record { to = to; body = sealing.sealed (message.Frame port frame.now) } ∷ []) };
 
-    /// What it says on a way.
-    fn unseal(&self, alloc: Global, way: Way) -> Result<Unsealed, AllocError>
-        ensures { IfOk result (λ unsealed. unsealed ≡ sealing.spelled way self.now) };
+    /// What a letter says on a way.
+    fn unseal(
+        alloc: Global,
+        bag: &Mailbag<Self>,
+        index: usize,
+        way: Way,
+    ) -> Result<Unsealed, AllocError>
+        requires { index < length bag.now }
+        ensures { IfSome (slice_get bag.now index) (λ letter. IfOk result (λ unsealed. unsealed ≡ sealing.spelled way letter.body)) };
 
     /// A valid message whose numbers fit their fields is read again as it was sealed.
     ghost faithful: { IsFaithful sealing };
@@ -37,13 +53,13 @@ pub trait Body: Weight {
     ghost weighed: { Self.Weight.size ≡ sealing.size };
 }
 
-/// The body of a message.
-pub fn seal<B: Body>(alloc: Global, message: &Message) -> Result<B, AllocError>
-    ensures { IfOk result (λ body. body ≡ B.sealing.sealed message.now) }
+/// Adds a letter with a message.
+pub fn seal<B: Body>(bag: &mut Mailbag<B>, to: Actor, message: &Message) -> Result<(), AllocError>
+    ensures { OnOk result (bag.new ≡ bag.old ++ record { to = to; body = B.sealing.sealed message.now } ∷ []) }
 {
     match message {
-        Message::Of { xid, message } => B::seal_spoken(alloc, *xid, message),
-        Message::Vr(message) => B::seal_vr(alloc, message),
-        Message::Frame { port, bytes } => B::seal_frame(alloc, *port, bytes),
+        Message::Of { xid, message } => B::seal_spoken(bag, to, *xid, message),
+        Message::Vr(message) => B::seal_vr(bag, to, message),
+        Message::Frame { port, bytes } => B::seal_frame(bag, to, *port, bytes),
     }
 }

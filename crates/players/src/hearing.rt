@@ -1,23 +1,25 @@
 //! What a packet is for the actor that it goes to.
-ghost use Rattle.std.specs.Prelude.{◌≡◌, IfOk};
+ghost use Rattle.std.specs.Prelude.{◌≡◌, ◌<◌, length, slice_get, IfOk, IfSome};
 ghost use Rattle.run_spec.specs.Messages.{way_of};
 
 use crate::body::Body;
 use crate::player::Player;
-use journal::Actor;
+use journal::{Actor, Mailbag};
 use run_spec::Way;
 use std::alloc::{AllocError, Global};
 
-/// What the body of a packet is for the actor that it goes to.
+/// What a letter is for the actor that it goes to.
 pub fn heard<P: Player, B: Body>(
     alloc: Global,
     from: Actor,
     to: Actor,
-    body: &B,
+    letters: &Mailbag<B>,
+    index: usize,
 ) -> Result<P::Input, AllocError>
-    ensures { IfOk result (λ input. input ≡ P.hears from (B.sealing.spelled (way_of from to) body.now)) }
+    requires { index < length letters.now }
+    ensures { IfSome (slice_get letters.now index) (λ letter. IfOk result (λ input. input ≡ P.hears from (B.sealing.spelled (way_of from to) letter.body))) }
 {
-    let unsealed = body.unseal(alloc, way_between(from, to))?;
+    let unsealed = B::unseal(alloc, letters, index, way_between(from, to))?;
     Ok(P::hear(alloc, from, unsealed))
 }
 

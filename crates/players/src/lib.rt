@@ -10,7 +10,6 @@ mod player;
 mod reading;
 mod sealing;
 mod turns;
-mod typed;
 
 pub use body::{Body, seal};
 pub use bytes::Bytes;
@@ -18,4 +17,3 @@ pub use fitting::spoken_fits;
 pub use hearing::heard;
 pub use player::Player;
 pub use turns::{TakesTurns, sealed_turn, typed_turn};
-pub use typed::Typed;

@@ -1,5 +1,5 @@
 //! What an actor is to those who carry its letters.
-ghost use Rattle.std.specs.Prelude.{◌≡◌, [], List, IfOk};
+ghost use Rattle.std.specs.Prelude.{◌≡◌, ◌++◌, [], List, OnOk};
 ghost use Rattle.journal.specs.declared.journal.Actor.{Actor};
 ghost use Rattle.journal.specs.declared.journal.Letter.{Letter};
 ghost use Rattle.journal.specs.declared.journal.Local.{Local};
@@ -11,10 +11,10 @@ ghost use Rattle.run_spec.specs.Legal.{AreTyped};
 ghost use Rattle.run_spec.specs.States.{switch_hears, controller_hears, switch_message, controller_message, sealed_letters};
 
 use crate::body::Body;
-use crate::sealing::{letters_fit, mails_fit, sealed_letters, sealed_mails};
+use crate::sealing::{letters_fit, mails_fit, seal_letters, seal_mails};
 use app_core::App;
 use group_controller::{Controller, ControllerInput, ControllerSays, Mails};
-use journal::{Actor, Letters, Local, Said};
+use journal::{Actor, Local, Mailbag, Said};
 use of_switch::{Switch, SwitchInput, SwitchSays};
 use of_types::Items;
 use run_spec::{Message, Unsealed};
@@ -50,9 +50,9 @@ pub trait Player {
     fn fits(post: &Self::Post)
         ensures { AreTyped said (letters post.now) };
 
-    /// What it posts, sealed letter by letter.
-    fn seal<B: Body>(alloc: Global, post: &Self::Post) -> Result<Letters<B>, AllocError>
-        ensures { IfOk result (λ sealed. sealed ≡ sealed_letters said B.sealing (letters post.now)) };
+    /// Adds what it posts, sealed letter by letter.
+    fn seal<B: Body>(post: &Self::Post, bag: &mut Mailbag<B>) -> Result<(), AllocError>
+        ensures { OnOk result (bag.new ≡ bag.old ++ sealed_letters said B.sealing (letters post.now)) };
 }
 
 /// A message that no such sender sends to a switch.
@@ -122,8 +122,8 @@ impl Player for Switch {
     }
 
     #[inline(always)]
-    fn seal<B: Body>(alloc: Global, post: &Said<SwitchSays>) -> Result<Letters<B>, AllocError> {
-        sealed_letters(alloc, post.as_slice())
+    fn seal<B: Body>(post: &Said<SwitchSays>, bag: &mut Mailbag<B>) -> Result<(), AllocError> {
+        seal_letters(bag, post.as_slice())
     }
 }
 
@@ -170,7 +170,7 @@ impl<A: App> Player for Controller<A> {
     }
 
     #[inline(always)]
-    fn seal<B: Body>(alloc: Global, post: &Mails) -> Result<Letters<B>, AllocError> {
-        sealed_mails(alloc, post.as_slice())
+    fn seal<B: Body>(post: &Mails, bag: &mut Mailbag<B>) -> Result<(), AllocError> {
+        seal_mails(bag, post.as_slice())
     }
 }

@@ -3,20 +3,21 @@ ghost use Rattle.std.specs.Prelude.{◌≡◌, ◌++◌, ◌∷◌, [], map, sli
 ghost use Rattle.journal.specs.declared.journal.Actor.TheVariants as actor;
 ghost use Rattle.vr_log.specs.Letters as vr;
 ghost use Rattle.vr_log.specs.Members.{others_below};
-ghost use Rattle.group_controller.specs.Mails.{letters_of, mailed};
+ghost use Rattle.group_controller.specs.Mails.{letters_mailed, mailed};
 ghost use Rattle.group_controller.specs.State.{to_members};
 ghost use Rattle.run_spec.specs.Legal.{AreTyped};
 ghost use Rattle.run_spec.specs.Messages.{FitsMessage};
 ghost use Rattle.run_spec.specs.States.{controller_message, sealed_letters, switch_message};
 ghost use Rattle.run_spec.specs.declared.messages.Message.TheVariants as messages;
+ghost use Rattle.players.specs.Mails.{copies};
 
 use crate::body::Body;
 use crate::fitting::spoken_fits;
 use group_controller::Mail;
-use journal::{Actor, Letter, Letters};
+use journal::{Actor, Letter, Mailbag};
 use of_bytes::u32_fits;
 use of_switch::SwitchSays;
-use std::alloc::{AllocError, Global};
+use std::alloc::AllocError;
 use vr_codec::vr_fits;
 use vr_log::{Mail as MemberMail, Receivers, VrMessage};
 
@@ -47,7 +48,7 @@ pub fn letters_fit(letters: &[Letter<SwitchSays>])
 
 /// Each number of a mail to members fits its field.
 fn told_fits(mail: &MemberMail)
-    ensures { AreTyped controller_message (to_members (vr.letters_of mail.now)) }
+    ensures { AreTyped controller_message (to_members (vr.mail_letters mail.now)) }
 {
     vr_fits(&mail.message);
 }
@@ -62,7 +63,7 @@ fn members_fit(mails: &[MemberMail])
 
 /// Each number of a mail fits its field.
 fn mail_fits(mail: &Mail)
-    ensures { AreTyped controller_message (letters_of mail.now) }
+    ensures { AreTyped controller_message (letters_mailed mail.now) }
 {
     match mail {
         Mail::Switch { xid, message, .. } => {
@@ -82,218 +83,108 @@ pub fn mails_fit(mails: &[Mail])
     }
 }
 
-/// A letter of a switch, sealed.
+/// Adds a letter of a switch.
 #[inline(always)]
-fn sealed_letter<B: Body>(
-    alloc: Global,
-    letter: &Letter<SwitchSays>,
-) -> Result<Letter<B>, AllocError>
-    ensures { IfOk result (λ sealed. sealed ∷ [] ≡ sealed_letters switch_message B.sealing (letter.now ∷ [])) }
+fn seal_letter<B: Body>(bag: &mut Mailbag<B>, letter: &Letter<SwitchSays>) -> Result<(), AllocError>
+    ensures { OnOk result (bag.new ≡ bag.old ++ sealed_letters switch_message B.sealing (letter.now ∷ [])) }
 {
-    let body = match &letter.body {
-        SwitchSays::Of { xid, message } => B::seal_spoken(alloc, *xid, message)?,
-        SwitchSays::Frame { port, bytes } => B::seal_frame(alloc, *port, bytes)?,
-    };
-    Ok(Letter {
-        to: letter.to,
-        body,
-    })
+    match &letter.body {
+        SwitchSays::Of { xid, message } => B::seal_spoken(bag, letter.to, *xid, message),
+        SwitchSays::Frame { port, bytes } => B::seal_frame(bag, letter.to, *port, bytes),
+    }
 }
 
-/// The letters of a switch, sealed.
-#[inline(always)]
-pub fn sealed_letters<B: Body>(
-    alloc: Global,
+/// Adds the letters of a switch.
+pub fn seal_letters<B: Body>(
+    bag: &mut Mailbag<B>,
     letters: &[Letter<SwitchSays>],
-) -> Result<Letters<B>, AllocError>
-    ensures { IfOk result (λ sealed. sealed ≡ sealed_letters switch_message B.sealing letters.now) }
+) -> Result<(), AllocError>
+    ensures { OnOk result (bag.new ≡ bag.old ++ sealed_letters switch_message B.sealing letters.now) }
 {
-    if let [letter] = letters {
-        return Ok(Letters::one(sealed_letter(alloc, letter)?));
-    }
-    let mut sealed = Vec::with_capacity(alloc, letters.len())?;
     for letter in letters {
-        sealed.push_reserved(sealed_letter(alloc, letter)?);
+        seal_letter(bag, letter)?;
     }
-    Ok(Letters::from_vec(sealed))
+    Ok(())
 }
 
-/// How many letters a mail to members has, at most.
-#[inline(always)]
-fn most_receivers(mail: &MemberMail) -> usize {
-    match mail.to {
-        Receivers::One(_) => 1,
-        Receivers::Others { controllers, .. } => usize::from(controllers.saturating_sub(1)),
-    }
-}
-
-/// How many letters mails to members have, at most.
-fn most_told(mails: &[MemberMail]) -> usize {
-    let mut count = 0usize;
-    for mail in mails {
-        count = count.saturating_add(most_receivers(mail));
-    }
-    count
-}
-
-/// How many letters there are at most.
-#[inline(always)]
-fn most_letters(mails: &[Mail]) -> usize {
-    let mut count = 0usize;
-    for mail in mails {
-        let more = match mail {
-            Mail::Switch { .. } => 1,
-            Mail::Members(letters) => most_told(letters.as_slice()),
-        };
-        count = count.saturating_add(more);
-    }
-    count
-}
-
-/// What several controllers are told, sealed. The first of them is told it behind so many letters: what it is told is copied.
-#[inline(always)]
-fn told_body<B: Body>(
-    alloc: Global,
-    letters: &[Letter<B>],
+/// Adds a letter that tells a controller what is told to each of several. The first of them is behind so many letters: from it
+/// the others have their body.
+fn seal_told<B: Body>(
+    bag: &mut Mailbag<B>,
     first: usize,
+    to: Actor,
     message: &VrMessage,
-) -> Result<B, AllocError>
-    requires { IfSome (slice_get letters.now first) (λ letter. letter.body ≡ B.sealing.sealed (messages.Vr message.now)) }
-    ensures { IfOk result (λ body. body ≡ B.sealing.sealed (messages.Vr message.now)) }
+) -> Result<(), AllocError>
+    requires { IfSome (slice_get bag.old first) (λ letter. letter.body ≡ B.sealing.sealed (messages.Vr message.now)) }
+    ensures { OnOk result (bag.new ≡ bag.old ++ record { to = to; body = B.sealing.sealed (messages.Vr message.now) } ∷ []) }
 {
-    match letters.get(first) {
-        Some(letter) => letter.body.copy(),
-        None => B::seal_vr(alloc, message),
+    if first < bag.len() {
+        bag.repeat(to, first)
+    } else {
+        B::seal_vr(bag, to, message)
     }
 }
 
-/// A letter to each other controller of a group. What it says is written once, and then copied.
-fn add_each<B: Body>(
-    alloc: Global,
-    letters: &mut Vec<Letter<B>>,
+/// Adds a letter to each other controller of a group. What it says is written once.
+fn seal_each<B: Body>(
+    bag: &mut Mailbag<B>,
     me: u8,
     controllers: u8,
     message: &VrMessage,
 ) -> Result<(), AllocError>
-    ensures { OnOk result (letters.new.items ≡ letters.old.items ++ map (λ to. record { to = actor.Controller to; body = B.sealing.sealed (messages.Vr message.now) }) (others_below me controllers)) }
+    ensures { OnOk result (bag.new ≡ bag.old ++ copies (B.sealing.sealed (messages.Vr message.now)) (others_below me controllers)) }
 {
-    let first = letters.as_slice().len();
+    let first = bag.len();
     for to in 0..controllers {
         if to != me {
-            let body = told_body(alloc, letters.as_slice(), first, message)?;
-            letters.push(Letter {
-                to: Actor::Controller(to),
-                body,
-            })?;
+            seal_told(bag, first, Actor::Controller(to), message)?;
         }
     }
     Ok(())
 }
 
-/// The letters of a mail to members, sealed.
+/// Adds the letters of a mail to members.
 #[inline(always)]
-fn add_told<B: Body>(
-    alloc: Global,
-    letters: &mut Vec<Letter<B>>,
-    mail: &MemberMail,
-) -> Result<(), AllocError>
-    ensures { OnOk result (letters.new.items ≡ letters.old.items ++ sealed_letters controller_message B.sealing (to_members (vr.letters_of mail.now))) }
+fn seal_member_mail<B: Body>(bag: &mut Mailbag<B>, mail: &MemberMail) -> Result<(), AllocError>
+    ensures { OnOk result (bag.new ≡ bag.old ++ sealed_letters controller_message B.sealing (to_members (vr.mail_letters mail.now))) }
 {
     match mail.to {
-        Receivers::One(to) => {
-            letters.push(Letter {
-                to: Actor::Controller(to),
-                body: B::seal_vr(alloc, &mail.message)?,
-            })?;
-            Ok(())
-        }
-        Receivers::Others { me, controllers } => {
-            add_each(alloc, letters, me, controllers, &mail.message)
-        }
+        Receivers::One(to) => B::seal_vr(bag, Actor::Controller(to), &mail.message),
+        Receivers::Others { me, controllers } => seal_each(bag, me, controllers, &mail.message),
     }
 }
 
-/// The letters of a member, sealed.
-fn add_members<B: Body>(
-    alloc: Global,
-    letters: &mut Vec<Letter<B>>,
-    mails: &[MemberMail],
-) -> Result<(), AllocError>
-    ensures { OnOk result (letters.new.items ≡ letters.old.items ++ sealed_letters controller_message B.sealing (to_members (vr.letters_in mails.now))) }
+/// Adds the letters of a member.
+fn seal_members<B: Body>(bag: &mut Mailbag<B>, mails: &[MemberMail]) -> Result<(), AllocError>
+    ensures { OnOk result (bag.new ≡ bag.old ++ sealed_letters controller_message B.sealing (to_members (vr.letters_in mails.now))) }
 {
     for mail in mails {
-        add_told(alloc, letters, mail)?;
+        seal_member_mail(bag, mail)?;
     }
     Ok(())
 }
 
-/// The letters of a mail, sealed.
+/// Adds the letters of a mail.
 #[inline(always)]
-fn add_mail<B: Body>(
-    alloc: Global,
-    letters: &mut Vec<Letter<B>>,
-    mail: &Mail,
-) -> Result<(), AllocError>
-    ensures { OnOk result (letters.new.items ≡ letters.old.items ++ sealed_letters controller_message B.sealing (letters_of mail.now)) }
+fn seal_mail<B: Body>(bag: &mut Mailbag<B>, mail: &Mail) -> Result<(), AllocError>
+    ensures { OnOk result (bag.new ≡ bag.old ++ sealed_letters controller_message B.sealing (letters_mailed mail.now)) }
 {
     match mail {
         Mail::Switch {
             switch,
             xid,
             message,
-        } => {
-            letters.push(Letter {
-                to: Actor::Switch(*switch),
-                body: B::seal_spoken(alloc, *xid, message)?,
-            })?;
-            Ok(())
-        }
-        Mail::Members(told) => add_members(alloc, letters, told.as_slice()),
+        } => B::seal_spoken(bag, Actor::Switch(*switch), *xid, message),
+        Mail::Members(told) => seal_members(bag, told.as_slice()),
     }
 }
 
-/// The letter of a mail that is one, sealed. Others have none here.
-#[inline(always)]
-fn sealed_alone<B: Body>(alloc: Global, mail: &Mail) -> Result<Option<Letter<B>>, AllocError>
-    ensures { IfOk result (λ alone. IfSome alone (λ letter. letter ∷ [] ≡ sealed_letters controller_message B.sealing (letters_of mail.now))) }
+/// Adds the letters of a controller's mails: what several controllers are told is written once.
+pub fn seal_mails<B: Body>(bag: &mut Mailbag<B>, mails: &[Mail]) -> Result<(), AllocError>
+    ensures { OnOk result (bag.new ≡ bag.old ++ sealed_letters controller_message B.sealing (mailed mails.now)) }
 {
-    match mail {
-        Mail::Switch {
-            switch,
-            xid,
-            message,
-        } => Ok(Some(Letter {
-            to: Actor::Switch(*switch),
-            body: B::seal_spoken(alloc, *xid, message)?,
-        })),
-        Mail::Members(letters) => match letters.as_slice() {
-            [
-                MemberMail {
-                    to: Receivers::One(to),
-                    message,
-                },
-            ] => Ok(Some(Letter {
-                to: Actor::Controller(*to),
-                body: B::seal_vr(alloc, message)?,
-            })),
-            _ => Ok(None),
-        },
-    }
-}
-
-/// The mails of a controller, sealed: what several controllers are told is written once.
-#[inline(always)]
-pub fn sealed_mails<B: Body>(alloc: Global, mails: &[Mail]) -> Result<Letters<B>, AllocError>
-    ensures { IfOk result (λ sealed. sealed ≡ sealed_letters controller_message B.sealing (mailed mails.now)) }
-{
-    if let [mail] = mails {
-        if let Some(letter) = sealed_alone(alloc, mail)? {
-            return Ok(Letters::one(letter));
-        }
-    }
-    let mut letters = Vec::with_capacity(alloc, most_letters(mails))?;
     for mail in mails {
-        add_mail(alloc, &mut letters, mail)?;
+        seal_mail(bag, mail)?;
     }
-    Ok(Letters::from_vec(letters))
+    Ok(())
 }

@@ -1,5 +1,5 @@
 //! Actors take turns: an input, what it makes them save, and what they say.
-ghost use Rattle.std.specs.Prelude.{◌≡◌, ◌⊎◌, List, IfOk, OnErr};
+ghost use Rattle.std.specs.Prelude.{◌≡◌, ◌⊎◌, [], List, IfOk, OnOk, OnErr};
 ghost use Rattle.journal.specs.declared.journal.Letter.{Letter};
 ghost use Rattle.run_spec.specs.Legal.{AreTyped};
 ghost use Rattle.run_spec.specs.States.{sealed_letters};
@@ -9,9 +9,9 @@ use crate::body::Body;
 use crate::player::Player;
 use app_core::App;
 use group_controller::{Controller, ControllerInput, Mails};
-use journal::{Letters, Said, Stable};
+use journal::{Mailbag, Said, Stable};
 use of_switch::{Switch, SwitchInput, SwitchSays};
-use std::alloc::{AllocError, Global};
+use std::alloc::AllocError;
 
 /// An actor that takes turns beside what it saves to: a controller beside its stable pair, a switch beside nothing.
 pub trait TakesTurns<W>: Player {
@@ -72,20 +72,26 @@ pub fn typed_turn<P: TakesTurns<W>, W>(
     Ok(post)
 }
 
-/// An actor takes an input, and gives what it says, sealed. Each number of it fits its field. Where there is no memory to seal it, it
-/// is lost.
+/// An actor takes an input, and what it says is sealed into an empty bag. Each number of it fits its field. Where there is no memory
+/// to seal it, it is lost.
 pub fn sealed_turn<P: TakesTurns<W>, W, B: Body>(
-    alloc: Global,
     player: &mut P,
     beside: &mut W,
     input: P::Input,
-) -> Result<Letters<B>, AllocError>
-    requires { P.ready player.old beside.old }
-    ensures turned { IfOk result (λ sealed. (letters : List (Letter P.Says)) × P.turned player.old beside.old input player.new beside.new letters
-        × (sealed ≡ sealed_letters P.said B.sealing letters) × AreTyped P.said letters) }
+    bag: &mut Mailbag<B>,
+) -> Result<(), AllocError>
+    requires ready { P.ready player.old beside.old }
+    requires empty { bag.old ≡ [] }
+    ensures turned { OnOk result ((letters : List (Letter P.Says)) × P.turned player.old beside.old input player.new beside.new letters
+        × (bag.new ≡ sealed_letters P.said B.sealing letters) × AreTyped P.said letters) }
     ensures wanted { OnErr result (P.wanted player.old beside.old player.new beside.new
         ⊎ ((letters : List (Letter P.Says)) × P.turned player.old beside.old input player.new beside.new letters × AreTyped P.said letters)) }
+    ensures lost { OnErr result (bag.new ≡ []) }
 {
     let post = typed_turn(player, beside, input)?;
-    P::seal::<B>(alloc, &post)
+    let sealed = P::seal::<B>(&post, bag);
+    if sealed.is_err() {
+        bag.clear();
+    }
+    sealed
 }

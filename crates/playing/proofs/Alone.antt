@@ -108,7 +108,7 @@ pub written : {X : Type 0} (n : ℕ) (xs ys : List X) → n ≡ length ys → le
 written n xs ys all long = ap (λ m. take m (xs ++ drop (length xs) ys)) (all ∙ sym long) ∙ take-append_seam xs (drop (length xs) ys)
 
 -- why threads stopped is why the run was cut short
-pub thread_halts : {B A W : Type 0} (law : AppLaw A) (saving : Saving W) (sealing : Sealing B) (steps : List Turn) (kinds : List ℕ) (first : Worlding B A) (stables stables_after : List W) (left : Played B A) (stop : Stop) →
+pub thread_halts : {B G A W : Type 0} (law : AppLaw A) (saving : Saving W) (sealing : Sealing B) (steps : List Turn) (kinds : List ℕ) (first : Worlding B A) (stables stables_after : List W) (left : Played B A G) (stop : Stop) →
     HaltsApart law saving sealing first.setup kinds steps first.controllers stables stables_after left stop → HaltsAs law saving sealing steps kinds first stables stables_after left stop
 thread_halts law saving sealing steps kinds first stables stables_after left OutOfMemory h = h
 thread_halts law saving sealing steps kinds first stables stables_after left (JournalFull bytes letters) h = (h.0, In_the_script h.1)

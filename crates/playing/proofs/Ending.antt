@@ -91,17 +91,17 @@ module _ {B A W : Type 0} (law : AppLaw A) (saving : Saving W) (sealing : Sealin
   closing_stops kinds holds follows goes_on (JournalFull bytes letters) c = cut In_order kinds holds follows goes_on bytes letters c
 
   -- what is left where actors played apart, and the closing stopped
-  paired : (kinds : List ℕ) → Holds law sealing first kinds → Keeps law saving sealing now stables_now last stables_last → (left : Played B A) → left.controllers.items ≡ last.controllers →
+  paired : {G : Type 0} → (kinds : List ℕ) → Holds law sealing first kinds → Keeps law saving sealing now stables_now last stables_last → (left : Played B A G) → left.controllers.items ≡ last.controllers →
       IsLeftPaired saving first.setup first.controllers stables stables_last left.controllers.items
   paired kinds holds k left controllers_are =
       let all = keeps_then law saving sealing first now last stables stables_now stables_last keeps k in
       let runs = runs_again law sealing first last kinds all.setup (all.holds kinds holds) in
       record { group = rw controllers_are runs.group; pairs = rw controllers_are all.pairs; told = rw controllers_are all.told; beyond = all.beyond }
 
-  pub closing_halts : (kinds : List ℕ) → Holds law sealing first kinds → HasFollowed Apart (scene_in sealing first kinds) steps now →
+  pub closing_halts : {G : Type 0} → (kinds : List ℕ) → Holds law sealing first kinds → HasFollowed Apart (scene_in sealing first kinds) steps now →
       (stop : Stop) → Keeps law saving sealing now stables_now last stables_last → IsWithinLimits sealing.size (past last.journal) →
       ClosingStops (scene_in sealing now kinds) now last stop →
-      (left : Played B A) → left.wire ≡ last.journal → left.controllers.items ≡ last.controllers → HaltsAs law saving sealing steps kinds first stables stables_last left stop
+      (left : Played B A G) → left.wire ≡ last.journal → left.controllers.items ≡ last.controllers → HaltsAs law saving sealing steps kinds first stables stables_last left stop
   closing_halts kinds holds follows OutOfMemory k within c left wire_is controllers_are = paired kinds holds k left controllers_are
   closing_halts kinds holds follows (JournalFull bytes letters) k within c left wire_is controllers_are =
       let all = keeps_then law saving sealing first now last stables stables_now stables_last keeps k in

@@ -64,7 +64,7 @@ RunStops scene steps new (JournalFull bytes letters) = Begins In_order scene (re
 
 -- what is left of a run whose actors play apart, where it was cut short: for want of memory controllers with their stable pairs, else a
 -- legal journal too, cut short where an outbox met the limit
-abbrev pub HaltsAs : {B A W : Type 0} → AppLaw A → Saving W → Sealing B → List Turn → List ℕ → Worlding B A → List W → List W → Played B A → Stop → Type 0
+abbrev pub HaltsAs : {B G A W : Type 0} → AppLaw A → Saving W → Sealing B → List Turn → List ℕ → Worlding B A → List W → List W → Played B A G → Stop → Type 0
 HaltsAs law saving sealing steps kinds start stables stables_after left OutOfMemory =
     IsLeftPaired saving start.setup start.controllers stables stables_after left.controllers.items
 HaltsAs law saving sealing steps kinds start stables stables_after left (JournalFull bytes letters) =

@@ -44,6 +44,8 @@ pub fn play_apart<
     stables: &mut Vec<W>,
     steps: &[Turn],
 ) -> Result<Rested<B, A>, Halt<B, A>>
+where
+    B::Bag: Send,
     requires holds { (kinds : List ℕ) × Holds A.law B.sealing world kinds }
     requires pairs { PairsStand W.saving stables.old.items world.controllers }
     requires rests { world.owed ≡ None }
@@ -59,7 +61,7 @@ pub fn play_apart<
         HaltsAs A.law W.saving B.sealing steps.now kinds world stables.old.items stables.new.items halt.played halt.stop) }
 {
     let mut world = run_threads::<B, A, W, G, R>(rt, alloc, gate, world, stables, steps)?;
-    let script = world.journal().len();
+    let script = world.len();
     let ended = closing::run(alloc, &mut world, stables);
     world.lawful();
     match ended {

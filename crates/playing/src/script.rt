@@ -39,7 +39,7 @@ pub fn play<B: Body, A: App, W: Stable>(
     ensures stops { ForEachScene A.law B.sealing world.old (λ scene. IfErr result (RunStops scene steps.now world.new)) }
 {
     do_steps(world, stables, steps)?;
-    let script = world.journal().len();
+    let script = world.len();
     let closed = closing::run(alloc, world, stables)?;
     Ok((closed, script))
 }

@@ -1,7 +1,7 @@
 //! The lines of a report.
 ghost use Rattle.std.specs.Prelude.{◌≡◌, ◌≤◌, ◌++◌, ℕ, List, length, OnOk};
 ghost use Rattle.journal.specs.declared.journal.JournalEntry.TheVariants as entry;
-ghost use Rattle.journal.specs.Letters.{letters_in};
+ghost use Rattle.journal.specs.Letters.{letters_held};
 ghost use Rattle.report.specs.Report.{lines_of, line, entry_lines, event_words, letter_line};
 
 use crate::line::Line;
@@ -103,7 +103,7 @@ fn write_one_or_many(
     out: &mut Sheet,
     letters: &mut OneOrMany<Octets>,
 ) -> Result<(), AllocError>
-    ensures { OnOk result (out.new ≡ out.old ++ lines_of letter_line (letters_in letters.old)) }
+    ensures { OnOk result (out.new ≡ out.old ++ lines_of letter_line (letters_held letters.old)) }
 {
     match letters {
         OneOrMany::One(letter) => write_letter(alloc, out, letter),

@@ -12,7 +12,7 @@ use app_core::App;
 use audit::{Verdict, check};
 use cases::Difference;
 use closing::{ClosingOutcome, may_close};
-use journal::{JournalEntry, MemorySink, MemoryStable, Stable, Stop, Turn};
+use journal::{Head, MemorySink, MemoryStable, Stable, Stop, Turn};
 use of_types::Octets;
 use players::{Body, Bytes};
 use report::write_report;
@@ -83,10 +83,10 @@ fn come_to_rest<B: Body, A: App, W: Stable>(
 }
 
 /// How many inputs were refused.
-fn count_refused<B>(entries: &[JournalEntry<B>]) -> u64 {
+fn count_refused(entries: &[Head]) -> u64 {
     let refused = entries
         .iter()
-        .filter(|entry| matches!(entry, JournalEntry::Refused { .. }));
+        .filter(|entry| matches!(entry, Head::Refused { .. }));
     refused.count() as u64
 }
 
@@ -129,7 +129,7 @@ fn play_in<W: Stable>(
     if take_steps(world, stables, steps).is_err() {
         return Ok(Outcome::Differs);
     }
-    let refused = count_refused(world.journal());
+    let refused = count_refused(world.heads());
     let Some(primary) = come_to_rest(alloc, world, stables) else {
         return Ok(Outcome::Differs);
     };

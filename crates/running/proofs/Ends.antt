@@ -11,7 +11,7 @@ use Rattle.journal.specs.Turns.{IsFull, IsWithinLimits}
 use Rattle.running.specs.declared.job.Job.{Job}
 use Rattle.running.specs.Jobs.{HasDone, IsAtEnd, HasNoRoom}
 
-module _ {B P : Type 0} (plays : List (JournalEntry B × Option (Packet B)) → P → List (Letter B) → Type 0) (size : B → ℕ) (steps : List Turn) (job : Job B P) where
+module _ {B G P : Type 0} (plays : List (JournalEntry B × Option (Packet B)) → P → List (Letter B) → Type 0) (size : B → ℕ) (steps : List Turn) (job : Job B P G) where
   pub done_ends : HasDone plays steps job → IsAtEnd plays steps job
   done_ends h = record { number = _; on = h.on; all = λ none. refl }
 

@@ -88,19 +88,22 @@ module _ {B A W : Type 0} (law : AppLaw A) (saving : Saving W) (sealing : Sealin
   }
 
 -- the parts of a world are its own
-module _ {B A W : Type 0} (law : AppLaw A) (saving : Saving W) (sealing : Sealing B) (w : Worlding B A) (stables stables_after : List W) (steps : List Turn)
+module _ {B A W : Type 0} (law : AppLaw A) (saving : Saving W) (w : Worlding B A) (stables : List W) (steps : List Turn)
     (setup : Setup) (controllers : List (Controlling A)) (switches : List SwitchState)
     (setup_is : setup ≡ w.setup) (controllers_are : controllers ≡ w.controllers) (switches_are : switches ≡ w.switches) where
   pub starts_with : (kinds : List ℕ) → StartsApart law saving w.setup kinds steps w.controllers w.switches stables → StartsApart law saving setup kinds steps controllers switches stables
   starts_with kinds h = rw (setup_is, controllers_are, switches_are) h
 
-  pub halts_with : (kinds : List ℕ) (left : Played B A) (stop : Stop) → HaltsApart law saving sealing setup kinds steps controllers stables stables_after left stop →
+module _ {B G A W : Type 0} (law : AppLaw A) (saving : Saving W) (sealing : Sealing B) (w : Worlding B A) (stables stables_after : List W) (steps : List Turn)
+    (setup : Setup) (controllers : List (Controlling A)) (switches : List SwitchState)
+    (setup_is : setup ≡ w.setup) (controllers_are : controllers ≡ w.controllers) (switches_are : switches ≡ w.switches) where
+  pub halts_with : (kinds : List ℕ) (left : Played B A G) (stop : Stop) → HaltsApart law saving sealing setup kinds steps controllers stables stables_after left stop →
       HaltsApart law saving sealing w.setup kinds steps w.controllers stables stables_after left stop
   halts_with kinds left stop h =
       subst (λ (cs : List (Controlling A)). HaltsApart law saving sealing w.setup kinds steps cs stables stables_after left stop) controllers_are
       (subst (λ (s : Setup). HaltsApart law saving sealing s kinds steps controllers stables stables_after left stop) setup_is h)
 
-  module _ (left : Played B A) (after : Worlding B A) (is : after ≡ resting_world setup left.wire left.controllers.items left.switches.items) where
+  module _ (left : Played B A G) (after : Worlding B A) (is : after ≡ resting_world setup left.wire left.controllers.items left.switches.items) where
     now_is : after ≡ resting_world w.setup left.wire left.controllers.items left.switches.items
     now_is = is ∙ ap (λ (s : Setup). resting_world s left.wire left.controllers.items left.switches.items) setup_is
 

@@ -1,6 +1,6 @@
 -- How an actor goes on to its next step, by what its call of the board tells.
-use Rattle.std.proofs.Common.{◌≡◌, ℕ, true, zero, Bool, List, [], ◌∷◌, ◌++◌, drop, refl, sym, ◌∙◌, ap, subst, Result, Ok, Err, IfOk}
-use Rattle.std.specs.Prelude.{Option, Some, None, IfSome}
+use Rattle.std.proofs.Common.{◌≡◌, ℕ, true, zero, Bool, List, [], ◌∷◌, ◌++◌, drop, refl, sym, ◌∙◌, ap, subst, Result, Ok, Err, IfOk, ◌<◌, length, arith}
+use Rattle.std.specs.Prelude.{Option, Some, None, IfSome, IsSome, slice_get}
 use Rattle.std.proofs.lemmas.List.{reverse-append}
 use Rattle.journal.specs.declared.journal.Actor.{Actor}
 use Rattle.journal.specs.declared.journal.JournalEntry.{JournalEntry}
@@ -119,3 +119,23 @@ module _ {B I : Type 0} (sealing : Sealing B) (hears : Actor → Unsealed → I)
         heard =
             let its = picked_packet sealing.size p.actor choice before k.packet orderly_then k.is in
             rw (k.is) (k.packet, its, ap (λ i. Some i) (input_is ∙ ap (λ x. hears x (sealing.spelled (way_of place.from place.to) body)) k.from_is ∙ ap (λ x. hears k.packet.from x) said))
+
+-- the letter of a packet came to a bag
+abbrev pub Came : {B : Type 0} → Option (Packet B) → List (Letter B) → List (Letter B) → Type 0
+Came {B = B} found before bag = IfSome found (λ p. (letter : Letter B) × (bag ≡ before ++ letter ∷ []) × (letter.body ≡ p.body))
+
+module _ {B : Type 0} where
+  pub stands_there : (journal : List (JournalEntry B)) (place : PacketPlace) (found : Option (Packet B)) → IsFound journal (Some place) found → IsSome (packet_at place journal)
+  stands_there journal place None is = absurd is
+  stands_there journal place (Some p) is = rw is.stands refl
+
+  pub holds_one : (found : Option (Packet B)) (before bag : List (Letter B)) → before ≡ [] → IsSome found → Came found before bag → 0 < length bag
+  holds_one None before bag blank some came = absurd (let e = some in cc)
+  holds_one (Some p) before bag blank some came = rw (came.1, blank) (omega arith)
+
+  -- what is true of the body of the first letter is true of the packet's, if it is the only one
+  pub reads_one : (found : Option (Packet B)) (before bag : List (Letter B)) (P : B → Type 0) → before ≡ [] → IsSome found → Came found before bag → IfSome (slice_get bag 0) (λ letter. P letter.body) →
+      (body : B) × IfSome found (λ p. body ≡ p.body) × P body
+  reads_one None before bag P blank some came read = absurd (let e = some in cc)
+  reads_one (Some p) before bag P blank some came read =
+      (came.0.body, came.2, subst (λ (ls : List (Letter B)). IfSome (slice_get ls 0) (λ letter. P letter.body)) (came.1 ∙ ap (λ l. l ++ came.0 ∷ []) blank) read)

@@ -43,7 +43,7 @@ same_controller c d h = cc
 same_switch : (c d : ℕ) → actor.Switch c ≡ actor.Switch d → d ≡ c
 same_switch c d h = cc
 
-module _ {B P : Type 0} (plays : List (JournalEntry B × Option (Packet B)) → P → List (Letter B) → Type 0) (steps : List Turn) (journal : List (JournalEntry B)) (a : Actor) (jobs : List (Job B P)) (number : ℕ)
+module _ {B G P : Type 0} (plays : List (JournalEntry B × Option (Packet B)) → P → List (Letter B) → Type 0) (steps : List Turn) (journal : List (JournalEntry B)) (a : Actor) (jobs : List (Job B P G)) (number : ℕ)
     (s : IsSeatedIn plays steps journal a jobs number) where
   behind : past journal ≡ past s.part.seen.0 ++ past s.job.place.seen
   behind = ap past s.part.seen.1 ∙ reverse-append s.job.place.seen s.part.seen.0
@@ -67,8 +67,8 @@ module _ {B P : Type 0} (plays : List (JournalEntry B × Option (Packet B)) → 
   pub all_taken : s.job.owed ≡ [] → s.ends.number ≡ length (steps_of a steps)
   all_taken none = s.ends.all none ∙ ap (λ (x : Actor). length (steps_of x steps)) s.actor_is
 
-module _ {B A W : Type 0} (law : AppLaw A) (saving : Saving W) (sealing : Sealing B) (setup : Setup) (kinds : List ℕ) (steps : List Turn)
-    (journal : List (JournalEntry B)) (controllers : List (Job B (Served A W))) (switches : List (Job B SwitchState)) (started : ℕ → SwitchState)
+module _ {B G A W : Type 0} (law : AppLaw A) (saving : Saving W) (sealing : Sealing B) (setup : Setup) (kinds : List ℕ) (steps : List Turn)
+    (journal : List (JournalEntry B)) (controllers : List (Job B (Served A W) G)) (switches : List (Job B SwitchState G)) (started : ℕ → SwitchState)
     (orderly : IsOrderly sealing.size (past journal)) (named : AllByRecursion (λ e. IsActor setup (actor_of e)) (past journal))
     (group : length controllers ≡ setup.controllers) (count : length switches ≡ length setup.ports)
     (controllers_end : (c : ℕ) → c < setup.controllers →
@@ -153,7 +153,7 @@ module _ {B A W : Type 0} (law : AppLaw A) (saving : Saving W) (sealing : Sealin
       let none = owes a there ∙ rest a there in record { takes = b.takes; all = b.all none; posted = none }
 
   -- one that is stuck cuts the run short
-  pub cut : {P : Type 0} (plays : List (JournalEntry B × Option (Packet B)) → P → List (Letter B) → Type 0) (a : Actor) (jobs : List (Job B P)) (number : ℕ) (bytes letters : ℕ) → IsActor setup a →
+  pub cut : {P : Type 0} (plays : List (JournalEntry B × Option (Packet B)) → P → List (Letter B) → Type 0) (a : Actor) (jobs : List (Job B P G)) (number : ℕ) (bytes letters : ℕ) → IsActor setup a →
       (s : IsSeatedIn plays steps journal a jobs number) → owed_at jobs number ≡ owed a → IsFull sealing.size (past s.job.place.seen) s.job.owed bytes letters →
       IsCutFor scene (results_in members) bytes letters (past journal) a
   cut plays a jobs number bytes letters there s same full = record {

@@ -87,10 +87,10 @@ no_pairs : {X Y : Type 0} (xs : List X) → zip {X = Y} xs [] ≡ []
 no_pairs [] = refl
 no_pairs (x ∷ xs) = refl
 
-pub nothing_seated : {B P : Type 0} (tasks : List (Task B P)) (places : List (PlaceState B)) → tasks ≡ tasks ++ seated places []
+pub nothing_seated : {B G P : Type 0} (tasks : List (Task B P G)) (places : List (PlaceState B)) → tasks ≡ tasks ++ seated places []
 nothing_seated tasks places = sym (ap (λ (l : List _). tasks ++ map (λ x. task_of x.0 x.1) l) (no_pairs places) ∙ append-nil tasks)
 
-pub seated_next : {B P : Type 0} (tasks : List (Task B P)) (places rest : List (PlaceState B)) (players : List P) (place : PlaceState B) (player : P) → place ∷ rest ≡ drop (length players) places →
+pub seated_next : {B G P : Type 0} (tasks : List (Task B P G)) (places rest : List (PlaceState B)) (players : List P) (place : PlaceState B) (player : P) → place ∷ rest ≡ drop (length players) places →
     (tasks ++ seated places players) ++ task_of place player ∷ [] ≡ tasks ++ seated places (players ++ player ∷ [])
 seated_next tasks places rest players place player left =
     append_assoc tasks (seated places players) (task_of place player ∷ []) ∙

@@ -26,6 +26,10 @@ pub if_ok : {T E : Type 0} (r : Result T E) (P Q : T → Type 0) → ((x : T) �
 if_ok (Ok x) P Q made h = made x h
 if_ok (Err e) P Q made h = tt
 
+pub on_ok_then : {T E : Type 0} (r : Result T E) (P Q : Type 0) → (P → Q) → OnOk r P → OnOk r Q
+on_ok_then (Ok x) P Q made h = made h
+on_ok_then (Err e) P Q made h = tt
+
 pub ok_at : {T E : Type 0} (r : Result T E) (P : T → Type 0) (x : T) → r ≡ Ok x → IfOk r P → P x
 ok_at r P x is h = rw is at h
 

@@ -41,6 +41,6 @@ module _ {B : Type 0} (sealing : Sealing B) (setup : Setup) (kinds : List ℕ) w
   }
 
 -- a job at a fresh place has taken no step
-pub job_fresh : {B P : Type 0} (plays : List (JournalEntry B × Option (Packet B)) → P → List (Letter B) → Type 0) (steps : List Turn) (board : TableId) (a : Actor) (player : P) →
-    plays [] player [] → PlaysOn plays steps 0 (record { place = fresh board a; player = player; owed = [] })
+pub job_fresh : {B G P : Type 0} (plays : List (JournalEntry B × Option (Packet B)) → P → List (Letter B) → Type 0) (steps : List Turn) (board : TableId) (a : Actor) (player : P) →
+    plays [] player [] → PlaysOn {G = G} plays steps 0 (record { place = fresh board a; player = player; owed = [] })
 job_fresh plays steps board a player h = record { plays_it = h; takes = tt; count = refl }

@@ -21,8 +21,6 @@ use Rattle.run_spec.specs.declared.messages.Unsealed.{Unsealed}
 use Rattle.run_spec.specs.States.{Sealing}
 use Rattle.shared_wire.specs.Rule.{StartsWith}
 use Rattle.shared_wire.specs.Places.{PlaceState}
-use Rattle.journal.specs.declared.wire.Refused.{Refused as Refusal}
-use Rattle.journal.specs.Answers.{RefusedBy}
 use Rattle.shared_wire.specs.Calls.{beside_seat, Adds, Refuses}
 use Rattle.shared_wire.proofs.Parts.{AllBy, part-own, same_of}
 use Rattle.shared_wire.proofs.Turns.{by_entry, by_posting}
@@ -72,6 +70,11 @@ module _ {B : Type 0} where
       subst (λ (l : List (JournalEntry B)). Taken p.actor steps number l) (sym met)
       (still p.actor steps number (past later.0) (past p.seen) (ap (part p.actor) (sym met) ∙ ap (λ (x : Actor). part x (past q.seen)) (sym same) ∙ sym q_part ∙ own ∙ p_part) t)
 
+  -- what a board refuses is owed as before
+  pub refused_stops : (size : B → ℕ) (p q : PlaceState B) (post : List (Letter B)) (stop : Stop) → Refuses size p q post stop → StopsAt size p q post post stop
+  refused_stops size p q post OutOfMemory h = tt
+  refused_stops size p q post (JournalFull bytes letters) h = (h.nothing.own, h.nothing.later, refl, h.cause)
+
 module _ {B I : Type 0} (sealing : Sealing B) (hears : Actor → Unsealed → I) (locally : LocalInput → I) (p q : PlaceState B) (letters : List (Letter B)) (step : Turn) (input : Option I)
     (g : Advances sealing hears locally p q letters step input) (mine : turn_actor step ≡ p.actor) (same : q.actor ≡ p.actor)
     (p_part : p.own ≡ part p.actor (past p.seen)) (q_part : q.own ≡ part q.actor (past q.seen)) (steps : List Turn) (number : ℕ) (next : slice_get (steps_of p.actor steps) number ≡ Some step)
@@ -117,19 +120,19 @@ module _ {B I : Type 0} (sealing : Sealing B) (hears : Actor → Unsealed → I)
       (still p.actor steps (number + 1) g.others (e ∷ before)
       (ap (part p.actor) (sym g.seen) ∙ ap (λ (x : Actor). part x (past q.seen)) (sym same) ∙ sym q_part ∙ sym part_is) at_entry)
 
-module _ {B P : Type 0} (plays : List (JournalEntry B × Option (Packet B)) → P → List (Letter B) → Type 0) (steps : List Turn) where
+module _ {B G P : Type 0} (plays : List (JournalEntry B × Option (Packet B)) → P → List (Letter B) → Type 0) (steps : List Turn) where
   pub plays_on : (p q : PlaceState B) (player : P) (owed : List (Letter B)) (number : ℕ) → q.actor ≡ p.actor → plays q.own player owed → Taken p.actor steps number (past q.seen) →
-      PlaysOn plays steps number (record { place = q; player = player; owed = owed })
+      PlaysOn {G = G} plays steps number (record { place = q; player = player; owed = owed })
   plays_on p q player owed number same plays_it t =
       let u : Taken q.actor steps number (past q.seen) = subst (λ (a : Actor). Taken a steps number (past q.seen)) (sym same) t in
       record { plays_it = plays_it; takes = u.takes; count = u.count }
 
-  pub taken_of : (p : PlaceState B) (player : P) (owed : List (Letter B)) (number : ℕ) → PlaysOn plays steps number (record { place = p; player = player; owed = owed }) → Taken p.actor steps number (past p.seen)
+  pub taken_of : (p : PlaceState B) (player : P) (owed : List (Letter B)) (number : ℕ) → PlaysOn {G = G} plays steps number (record { place = p; player = player; owed = owed }) → Taken p.actor steps number (past p.seen)
   taken_of p player owed number on = record { takes = on.takes; count = on.count }
 
   -- one that stops is as it was
   pub stops_in : (size : B → ℕ) (p q : PlaceState B) (player : P) (old new : List (Letter B)) (number : ℕ) (stop : Stop) → q.actor ≡ p.actor → p.own ≡ part p.actor (past p.seen) → q.own ≡ part q.actor (past q.seen) →
-      PlaysOn plays steps number (record { place = p; player = player; owed = old }) → StopsAt size p q old new stop → StopsIn plays size steps (record { place = q; player = player; owed = new }) stop
+      PlaysOn {G = G} plays steps number (record { place = p; player = player; owed = old }) → StopsAt size p q old new stop → StopsIn {G = G} plays size steps (record { place = q; player = player; owed = new }) stop
   stops_in size p q player old new number OutOfMemory same p_part q_part on h = (p.own, old, on.plays_it)
   stops_in size p q player old new number (JournalFull bytes letters) same p_part q_part on h = record {
     number = number;
@@ -138,20 +141,12 @@ module _ {B P : Type 0} (plays : List (JournalEntry B × Option (Packet B)) → 
     full = subst (λ o. IsFull size (past q.seen) o bytes letters) (sym h.2) h.3;
   }
 
-  -- what a board refuses is owed as before
-  pub refused_stops : (size : B → ℕ) (p q : PlaceState B) (post : List (Letter B)) (r : Refusal B) → Refuses size p q post r → StopsAt size p q post r.post r.cause
-  refused_stops size p q post r h = by_cause r.cause refl
-    where
-      by_cause : (stop : Stop) → r.cause ≡ stop → StopsAt size p q post r.post stop
-      by_cause OutOfMemory is = tt
-      by_cause (JournalFull bytes letters) is = (h.nothing.own, h.nothing.later, h.back, subst (λ x. RefusedBy size x post (past q.seen)) is h.cause)
-
   -- the last outbox was posted
-  pub last_posted : (size : B → ℕ) (p q : PlaceState B) (player : P) (owed : List (Letter B)) (number : ℕ) → q.actor ≡ p.actor → p.own ≡ part p.actor (past p.seen) → q.own ≡ part q.actor (past q.seen) →
+  pub last_posted : (size : B → ℕ) (p q : PlaceState B) (player : P) (owed left : List (Letter B)) (number : ℕ) → left ≡ [] → q.actor ≡ p.actor → p.own ≡ part p.actor (past p.seen) → q.own ≡ part q.actor (past q.seen) →
       Adds p q (posting size p.actor owed) → ((before : List (JournalEntry B)) → plays (beside_seat (posting size p.actor owed before) before ++ p.own) player []) →
-      PlaysOn plays steps number (record { place = p; player = player; owed = owed }) → PlaysOn plays steps number (record { place = q; player = player; owed = [] })
-  last_posted size p q player owed number same p_part q_part a posts on =
-      plays_on p q player [] number same (subst (λ o. plays o player []) (sym own_is) (posts (past a.met)))
+      PlaysOn {G = G} plays steps number (record { place = p; player = player; owed = owed }) → PlaysOn {G = G} plays steps number (record { place = q; player = player; owed = left })
+  last_posted size p q player owed left number none same p_part q_part a posts on =
+      plays_on p q player left number same (subst (λ o. plays q.own player o) (sym none) (subst (λ o. plays o player []) (sym own_is) (posts (past a.met))))
       (subst (λ (l : List (JournalEntry B)). Taken p.actor steps number l) (sym seen_is) (posts_taken size p.actor p.actor steps number owed (past a.met) at_met))
     where
       one_post : (ls : List (Letter B)) → past (posting size p.actor ls (past a.met)) ≡ posting size p.actor ls (past a.met)

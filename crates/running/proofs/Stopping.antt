@@ -29,43 +29,43 @@ which (Some (JournalFull bytes letters)) None stop is = inl is
 which (Some (JournalFull bytes letters)) (Some OutOfMemory) stop is = inr is
 which (Some (JournalFull bytes letters)) (Some (JournalFull b l)) stop is = inl is
 
-module _ {B P : Type 0} where
+module _ {B G P : Type 0} where
   -- none of these found no memory
-  abbrev pub AreCalm : List (Task B P) → Type 0
-  AreCalm tasks = (i : ℕ) (t : Task B P) → slice_get tasks i ≡ Some t → t.stop ≡ Some OutOfMemory → ⊥
+  abbrev pub AreCalm : List (Task B P G) → Type 0
+  AreCalm tasks = (i : ℕ) (t : Task B P G) → slice_get tasks i ≡ Some t → t.stop ≡ Some OutOfMemory → ⊥
 
-  starved : (tasks : List (Task B P)) → first_stop (Some OutOfMemory) tasks ≡ Some OutOfMemory
+  starved : (tasks : List (Task B P G)) → first_stop (Some OutOfMemory) tasks ≡ Some OutOfMemory
   starved [] = refl
   starved (t ∷ tasks) = starved tasks
 
-  pub was_calm : (first : Option Stop) (tasks : List (Task B P)) → (first_stop first tasks ≡ Some OutOfMemory → ⊥) → first ≡ Some OutOfMemory → ⊥
+  pub was_calm : (first : Option Stop) (tasks : List (Task B P G)) → (first_stop first tasks ≡ Some OutOfMemory → ⊥) → first ≡ Some OutOfMemory → ⊥
   was_calm first tasks calm is = calm (ap (λ (o : Option Stop). first_stop o tasks) is ∙ starved tasks)
 
-  pub are_calm : (first : Option Stop) (tasks : List (Task B P)) → (first_stop first tasks ≡ Some OutOfMemory → ⊥) → AreCalm tasks
+  pub are_calm : (first : Option Stop) (tasks : List (Task B P G)) → (first_stop first tasks ≡ Some OutOfMemory → ⊥) → AreCalm tasks
   are_calm first [] calm i t found = cc
   are_calm first (u ∷ tasks) calm zero t found =
       let same : u ≡ t = cc in
-      λ is. was_calm (worst first u.stop) tasks calm (worst_starves first u.stop (ap (λ (x : Task B P). x.stop) same ∙ is))
+      λ is. was_calm (worst first u.stop) tasks calm (worst_starves first u.stop (ap (λ (x : Task B P G). x.stop) same ∙ is))
   are_calm first (u ∷ tasks) calm (suc i) t found = are_calm (worst first u.stop) tasks calm i t found
 
-  pub none_first : (first : Option Stop) (tasks : List (Task B P)) → first_stop first tasks ≡ None → first ≡ None
+  pub none_first : (first : Option Stop) (tasks : List (Task B P G)) → first_stop first tasks ≡ None → first ≡ None
   none_first first [] is = is
   none_first first (u ∷ tasks) is = (no_stop first u.stop (none_first (worst first u.stop) tasks is)).0
 
-  pub none_stopped : (first : Option Stop) (tasks : List (Task B P)) → first_stop first tasks ≡ None → (i : ℕ) (t : Task B P) → slice_get tasks i ≡ Some t → t.stop ≡ None
+  pub none_stopped : (first : Option Stop) (tasks : List (Task B P G)) → first_stop first tasks ≡ None → (i : ℕ) (t : Task B P G) → slice_get tasks i ≡ Some t → t.stop ≡ None
   none_stopped first [] is i t found = cc
   none_stopped first (u ∷ tasks) is zero t found =
-      let same : u ≡ t = cc in ap (λ (x : Task B P). x.stop) (sym same) ∙ (no_stop first u.stop (none_first (worst first u.stop) tasks is)).1
+      let same : u ≡ t = cc in ap (λ (x : Task B P G). x.stop) (sym same) ∙ (no_stop first u.stop (none_first (worst first u.stop) tasks is)).1
   none_stopped first (u ∷ tasks) is (suc i) t found = none_stopped (worst first u.stop) tasks is i t found
 
   -- one of a list stopped for this
-  pub record HasStopped (stop : Stop) (tasks : List (Task B P)) : Type 0 where
+  pub record HasStopped (stop : Stop) (tasks : List (Task B P G)) : Type 0 where
     pub number : ℕ
-    pub task : Task B P
+    pub task : Task B P G
     pub stands : slice_get tasks number ≡ Some task
     pub stop_is : task.stop ≡ Some stop
 
-  pub who_stopped : (first : Option Stop) (tasks : List (Task B P)) (stop : Stop) → first_stop first tasks ≡ Some stop → (first ≡ Some stop) ⊎ HasStopped stop tasks
+  pub who_stopped : (first : Option Stop) (tasks : List (Task B P G)) (stop : Stop) → first_stop first tasks ≡ Some stop → (first ≡ Some stop) ⊎ HasStopped stop tasks
   who_stopped first [] stop is = inl is
   who_stopped first (u ∷ tasks) stop is = by_rest (who_stopped (worst first u.stop) tasks stop is)
     where

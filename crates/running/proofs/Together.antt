@@ -45,7 +45,7 @@ use Rattle.running.proofs.Starting.{job_fresh, served_fresh, switch_fresh}
 use Rattle.running.proofs.Stopping.{AreCalm, HasStopped, are_calm, none_first, none_stopped, was_calm, who_stopped}
 
 -- players at the places of a new board
-module _ {B A W : Type 0} (law : AppLaw A) (saving : Saving W) (sealing : Sealing B) (setup : Setup) (kinds : List ℕ) (steps : List Turn) (id : TableId)
+module _ (G : Type 0) {B A W : Type 0} (law : AppLaw A) (saving : Saving W) (sealing : Sealing B) (setup : Setup) (kinds : List ℕ) (steps : List Turn) (id : TableId)
     (controllers : List (Controlling A)) (switches : List SwitchState) (stables : List W) (starts : StartsApart law saving setup kinds steps controllers switches stables) where
   abbrev actors : List Actor
   actors = actors_up_to (length controllers) (length switches)
@@ -53,10 +53,10 @@ module _ {B A W : Type 0} (law : AppLaw A) (saving : Saving W) (sealing : Sealin
   abbrev places : List (PlaceState B)
   places = map (fresh id) actors
 
-  abbrev first_members : List (Task B (Served A W))
+  abbrev first_members : List (Task B (Served A W) G)
   first_members = seated places (served controllers stables)
 
-  abbrev first_others : List (Task B SwitchState)
+  abbrev first_others : List (Task B SwitchState G)
   first_others = seated (drop (length controllers) places) switches
 
   group_is : length controllers ≡ setup.controllers
@@ -137,7 +137,7 @@ module _ {B A W : Type 0} (law : AppLaw A) (saving : Saving W) (sealing : Sealin
   some_is x y h = cc
 
   -- each is ready
-  pub members_ready : All (MayBegin (ServedPlays law saving sealing) id steps) first_members
+  members_ready : All (MayBegin (ServedPlays law saving sealing) id steps) first_members
   members_ready = by_number (MayBegin (ServedPlays law saving sealing) id steps) first_members (λ c x within found.
       let group = group_is in
       let long = members_long in
@@ -147,7 +147,7 @@ module _ {B A W : Type 0} (law : AppLaw A) (saving : Saving W) (sealing : Sealin
       subst (MayBegin (ServedPlays law saving sealing) id steps) (some_is x (task_of (fresh id (actor.Controller c)) start) (sym found ∙ member_at c there s))
       (record { board_is = refl; plays_it = (setup, kinds, start, job_fresh (ServedPlays law saving sealing setup kinds (actor.Controller c) start) steps id (actor.Controller c) start s.plays) }))
 
-  pub others_ready : All (MayBegin (SwitchPlays sealing) id steps) first_others
+  others_ready : All (MayBegin (SwitchPlays sealing) id steps) first_others
   others_ready = by_number (MayBegin (SwitchPlays sealing) id steps) first_others (λ s x within found.
       let count = count_is in
       let long = others_long in
@@ -156,16 +156,22 @@ module _ {B A W : Type 0} (law : AppLaw A) (saving : Saving W) (sealing : Sealin
       subst (MayBegin (SwitchPlays sealing) id steps) (some_is x (task_of (fresh id (actor.Switch s)) start) (sym found ∙ other_at s there))
       (record { board_is = refl; plays_it = (setup, kinds, start, job_fresh (SwitchPlays sealing setup kinds (actor.Switch s) start) steps id (actor.Switch s) start (switch_fresh sealing setup kinds s)) }))
 
+  pub members_ready_at : (ps : List (PlaceState B)) → ps ≡ places → All (MayBegin (ServedPlays law saving sealing) id steps) (seated {G = G} ps (served controllers stables))
+  members_ready_at ps is = subst (λ p. All (MayBegin (ServedPlays law saving sealing) id steps) (seated {G = G} p (served controllers stables))) (sym is) members_ready
+
+  pub others_ready_at : (ps : List (PlaceState B)) → ps ≡ places → All (MayBegin (SwitchPlays sealing) id steps) (seated {G = G} (drop (length controllers) ps) switches)
+  others_ready_at ps is = subst (λ p. All (MayBegin (SwitchPlays sealing) id steps) (seated {G = G} (drop (length controllers) p) switches)) (sym is) others_ready
+
   -- what they left
-  module _ (stables_after : List W) (played : Played B A) (stop : Option Stop)
+  module _ (stables_after : List W) (played : Played B A G) (stop : Option Stop)
       (h : HavePlayed law saving sealing steps places controllers switches stables stables_after played stop) where
     abbrev wire : List (JournalEntry B)
     wire = played.wire
 
-    abbrev member_jobs : List (Job B (Served A W))
+    abbrev member_jobs : List (Job B (Served A W) G)
     member_jobs = map (λ t. t.job) h.members
 
-    abbrev other_jobs : List (Job B SwitchState)
+    abbrev other_jobs : List (Job B SwitchState G)
     other_jobs = map (λ t. t.job) h.others
 
     members_same : length h.members ≡ setup.controllers
@@ -185,8 +191,8 @@ module _ {B A W : Type 0} (law : AppLaw A) (saving : Saving W) (sealing : Sealin
         h.named)
 
     -- a task as it ended
-    record HasEndedAs {P : Type 0} (plays : Setup → List ℕ → Actor → P → List _ → P → List _ → Type 0) (a : Actor) (start : P) (tasks : List (Task B P)) (number : ℕ) : Type 0 where
-      pub task : Task B P
+    record HasEndedAs {P : Type 0} (plays : Setup → List ℕ → Actor → P → List _ → P → List _ → Type 0) (a : Actor) (start : P) (tasks : List (Task B P G)) (number : ℕ) : Type 0 where
+      pub task : Task B P G
       pub stands : slice_get tasks number ≡ Some task
       pub ran : WasRun plays sealing.size steps (task_of (fresh id a) start) task
       pub part : IsPartOf wire task.job.place
@@ -203,7 +209,7 @@ module _ {B A W : Type 0} (law : AppLaw A) (saving : Saving W) (sealing : Sealin
         record {
           task = now;
           stands = stands;
-          ran = subst (λ (t : Task B (Served A W)). WasRun (ServedPlays law saving sealing) sealing.size steps t now)
+          ran = subst (λ (t : Task B (Served A W) G). WasRun (ServedPlays law saving sealing) sealing.size steps t now)
               (get_or_from_slice_get first_members c start start (member_at c there s)) (h.members_ran.each c start (omega (arith, old_long, group, there)));
           part = at_number (IsPartOf wire) (map seat_place_of h.members ++ map seat_place_of h.others) c now.job.place h.parts
               (slice_get-append (map seat_place_of h.members) (map seat_place_of h.others) c now.job.place (got_map seat_place_of h.members c now stands));
@@ -220,21 +226,21 @@ module _ {B A W : Type 0} (law : AppLaw A) (saving : Saving W) (sealing : Sealin
         record {
           task = now;
           stands = stands;
-          ran = subst (λ (t : Task B SwitchState). WasRun (SwitchPlays sealing) sealing.size steps t now)
+          ran = subst (λ (t : Task B SwitchState G). WasRun (SwitchPlays sealing) sealing.size steps t now)
               (get_or_from_slice_get first_others s start start (other_at s there)) (h.others_ran.each s start (omega (arith, old_long, count, there)));
           part = at_number (IsPartOf wire) (map seat_place_of h.members ++ map seat_place_of h.others) (length (map seat_place_of h.members) + s) now.job.place h.parts
               (got_behind (map seat_place_of h.members) (map seat_place_of h.others) s (length (map seat_place_of h.members) + s) refl ∙ got_map seat_place_of h.others s now stands);
         }
 
     -- where no task was short of memory, the job of each has ended
-    ended : {P : Type 0} (plays : List _ → P → List _ → Type 0) (job : Job B P) (o : Option Stop) → (o ≡ Some OutOfMemory → ⊥) → IsWithinLimits sealing.size (past job.place.seen) →
+    ended : {P : Type 0} (plays : List _ → P → List _ → Type 0) (job : Job B P G) (o : Option Stop) → (o ≡ Some OutOfMemory → ⊥) → IsWithinLimits sealing.size (past job.place.seen) →
         EndsAs plays sealing.size steps job o → IsAtEnd plays steps job
     ended plays job None calm within ends = done_ends plays sealing.size steps job ends
     ended plays job (Some OutOfMemory) calm within ends = absurd (calm refl)
     ended plays job (Some (JournalFull bytes letters)) calm within ends = stuck_ends plays sealing.size steps job bytes letters within ends
 
     -- however a job ended, its player is what some entries of its own make of it
-    played_some : {P : Type 0} (plays : List _ → P → List _ → Type 0) (job : Job B P) (o : Option Stop) → EndsAs plays sealing.size steps job o → HasPlayedSome plays job.player
+    played_some : {P : Type 0} (plays : List _ → P → List _ → Type 0) (job : Job B P G) (o : Option Stop) → EndsAs plays sealing.size steps job o → HasPlayedSome plays job.player
     played_some plays job None ends = (job.place.own, job.owed, ends.on.plays_it)
     played_some plays job (Some OutOfMemory) ends = ends
     played_some plays job (Some (JournalFull bytes letters)) ends = (job.place.own, job.owed, ends.on.plays_it)
@@ -247,10 +253,10 @@ module _ {B A W : Type 0} (law : AppLaw A) (saving : Saving W) (sealing : Sealin
         played_some plays e.task.job e.task.stop (e.ran.ends setup kinds start (job_fresh plays steps id (actor.Controller c) start s.plays))
 
     -- a controller as it was left, with what it saved to
-    controller_left : (c : ℕ) (t : Task B (Served A W)) → slice_get h.members c ≡ Some t → slice_get played.controllers.items c ≡ Some t.job.player.controller
+    controller_left : (c : ℕ) (t : Task B (Served A W) G) → slice_get h.members c ≡ Some t → slice_get played.controllers.items c ≡ Some t.job.player.controller
     controller_left c t stands = ap (λ (l : List (Controlling A)). slice_get l c) h.controllers_are ∙ got_map controller_of (map player_of h.members) c t.job.player (got_map player_of h.members c t stands)
 
-    stable_left : (c : ℕ) (t : Task B (Served A W)) → slice_get h.members c ≡ Some t → slice_get stables_after c ≡ Some t.job.player.stable
+    stable_left : (c : ℕ) (t : Task B (Served A W) G) → slice_get h.members c ≡ Some t → slice_get stables_after c ≡ Some t.job.player.stable
     stable_left c t stands =
         ap (λ (l : List W). slice_get l c) h.stables_are ∙ slice_get-append (map stable_of (map player_of h.members)) (drop (length controllers) stables) c t.job.player.stable
         (got_map stable_of (map player_of h.members) c t.job.player (got_map player_of h.members c t stands))
@@ -328,11 +334,11 @@ module _ {B A W : Type 0} (law : AppLaw A) (saving : Saving W) (sealing : Sealin
           }
 
       -- what the joined parts are, in all
-      fused : (tasks : List (Task B (Served A W))) → map (λ j. j.player.controller) (map (λ (t : Task B (Served A W)). t.job) tasks) ≡ map controller_of (map player_of tasks)
+      fused : (tasks : List (Task B (Served A W) G)) → map (λ j. j.player.controller) (map (λ (t : Task B (Served A W) G). t.job) tasks) ≡ map controller_of (map player_of tasks)
       fused [] = refl
       fused (t ∷ tasks) = ap (λ l. t.job.player.controller ∷ l) (fused tasks)
 
-      fused_others : (tasks : List (Task B SwitchState)) → map (λ j. j.player) (map (λ (t : Task B SwitchState). t.job) tasks) ≡ map player_of tasks
+      fused_others : (tasks : List (Task B SwitchState G)) → map (λ j. j.player) (map (λ (t : Task B SwitchState G). t.job) tasks) ≡ map player_of tasks
       fused_others [] = refl
       fused_others (t ∷ tasks) = ap (λ l. t.job.player ∷ l) (fused_others tasks)
 
@@ -369,8 +375,8 @@ module _ {B A W : Type 0} (law : AppLaw A) (saving : Saving W) (sealing : Sealin
       left_legal = record { legal = legal; within = h.within; members = left_members; paired = left_paired }
 
       -- where each did all of its steps
-      module _ (members_done : (i : ℕ) (t : Task B (Served A W)) → slice_get h.members i ≡ Some t → t.stop ≡ None) (others_done : (i : ℕ) (t : Task B SwitchState) → slice_get h.others i ≡ Some t → t.stop ≡ None) where
-        none_owed : {P : Type 0} (plays : List _ → P → List _ → Type 0) (job : Job B P) (o : Option Stop) → o ≡ None → EndsAs plays sealing.size steps job o → job.owed ≡ []
+      module _ (members_done : (i : ℕ) (t : Task B (Served A W) G) → slice_get h.members i ≡ Some t → t.stop ≡ None) (others_done : (i : ℕ) (t : Task B SwitchState G) → slice_get h.others i ≡ Some t → t.stop ≡ None) where
+        none_owed : {P : Type 0} (plays : List _ → P → List _ → Type 0) (job : Job B P G) (o : Option Stop) → o ≡ None → EndsAs plays sealing.size steps job o → job.owed ≡ []
         none_owed plays job None is ends = ends.rests
         none_owed plays job (Some stop) is ends = absurd (let h = is in cc)
 
@@ -402,7 +408,7 @@ module _ {B A W : Type 0} (law : AppLaw A) (saving : Saving W) (sealing : Sealin
 
       -- one is stuck at these numbers
       module _ (bytes letters : ℕ) where
-        full_at : {P : Type 0} (plays : List _ → P → List _ → Type 0) (job : Job B P) (o : Option Stop) → o ≡ Some (JournalFull bytes letters) → EndsAs plays sealing.size steps job o →
+        full_at : {P : Type 0} (plays : List _ → P → List _ → Type 0) (job : Job B P G) (o : Option Stop) → o ≡ Some (JournalFull bytes letters) → EndsAs plays sealing.size steps job o →
             IsFull sealing.size (past job.place.seen) job.owed bytes letters
         full_at plays job None is ends = absurd (let h = is in cc)
         full_at plays job (Some OutOfMemory) is ends = absurd (let h = is in cc)
@@ -427,7 +433,7 @@ module _ {B A W : Type 0} (law : AppLaw A) (saving : Saving W) (sealing : Sealin
             cut_short (actor.Controller c)
             (joined.cut law saving sealing setup kinds steps wire member_jobs other_jobs started h.orderly named jobs_long other_jobs_long joins_controllers switch_seated plays (actor.Controller c) member_jobs c bytes letters
             there (controller_seated c there s) refl
-            (full_at plays e.task.job e.task.stop (ap (λ (t : Task B (Served A W)). t.stop) (some_is st.task e.task (sym st.stands ∙ e.stands)) ∙ st.stop_is)
+            (full_at plays e.task.job e.task.stop (ap (λ (t : Task B (Served A W) G). t.stop) (some_is st.task e.task (sym st.stands ∙ e.stands)) ∙ st.stop_is)
             (e.ran.ends setup kinds start (job_fresh plays steps id (actor.Controller c) start s.plays))))
 
         pub other_stuck : HasStopped (JournalFull bytes letters) h.others → BeginsApart (scene_of sealing setup kinds) (results_in played.controllers.items) steps bytes letters (past wire)
@@ -443,7 +449,7 @@ module _ {B A W : Type 0} (law : AppLaw A) (saving : Saving W) (sealing : Sealin
             cut_short (actor.Switch s)
             (joined.cut law saving sealing setup kinds steps wire member_jobs other_jobs started h.orderly named jobs_long other_jobs_long joins_controllers switch_seated plays (actor.Switch s) other_jobs s bytes letters
             there (switch_seated s there) refl
-            (full_at plays e.task.job e.task.stop (ap (λ (t : Task B SwitchState). t.stop) (some_is st.task e.task (sym st.stands ∙ e.stands)) ∙ st.stop_is)
+            (full_at plays e.task.job e.task.stop (ap (λ (t : Task B SwitchState G). t.stop) (some_is st.task e.task (sym st.stands ∙ e.stands)) ∙ st.stop_is)
             (e.ran.ends setup kinds start (job_fresh plays steps id (actor.Switch s) start (switch_fresh sealing setup kinds s)))))
 
     -- the answer of the call

@@ -10,19 +10,19 @@ use Rattle.group_controller.specs.Turns.{Controlling}
 use Rattle.running.specs.declared.seated.Served.{Served}
 use Rattle.running.specs.declared.task.Task.{Task}
 
-module _ {B P : Type 0} where
+module _ {B G P : Type 0} where
   -- an actor at its place, with nothing owed
-  abbrev pub task_of : PlaceState B → P → Task B P
+  abbrev pub task_of : PlaceState B → P → Task B P G
   task_of place player = record { job = record { place = place; player = player; owed = [] }; stop = None }
 
-  abbrev pub seat_place_of : Task B P → PlaceState B
+  abbrev pub seat_place_of : Task B P G → PlaceState B
   seat_place_of task = task.job.place
 
-  abbrev pub player_of : Task B P → P
+  abbrev pub player_of : Task B P G → P
   player_of task = task.job.player
 
   -- the cause that counts, of those that a list stopped for
-  abbrev pub first_stop : Option Stop → List (Task B P) → Option Stop
+  abbrev pub first_stop : Option Stop → List (Task B P G) → Option Stop
   first_stop first [] = first
   first_stop first (task ∷ tasks) = first_stop (worst first task.stop) tasks
 
@@ -31,7 +31,7 @@ abbrev pub actors_up_to : ℕ → ℕ → List Actor
 actors_up_to group count = map (λ c. actor.Controller c) (range_with_len 0 group) ++ map (λ s. actor.Switch s) (range_with_len 0 count)
 
 -- players at places, in order, each with nothing owed
-abbrev pub seated : {B P : Type 0} → List (PlaceState B) → List P → List (Task B P)
+abbrev pub seated : {B G P : Type 0} → List (PlaceState B) → List P → List (Task B P G)
 seated places players = map (λ x. task_of x.0 x.1) (zip places players)
 
 -- controllers beside what they save to, in order

@@ -42,23 +42,23 @@ pub record IsLeftPaired {A W : Type 0} (saving : Saving W) (setup : Setup) (befo
   pub beyond : (i : ℕ) → setup.controllers ≤ i → slice_get stables_after i ≡ slice_get stables i
 
 -- and but for want of memory: a legal journal, with the results of the saves that the controllers kept, and the controllers that it gives
-pub record IsLeftLegal {B A W : Type 0} (law : AppLaw A) (saving : Saving W) (sealing : Sealing B) (setup : Setup) (kinds : List ℕ)
-    (before : List (Controlling A)) (stables stables_after : List W) (left : Played B A) : Type 0 where
+pub record IsLeftLegal {B G A W : Type 0} (law : AppLaw A) (saving : Saving W) (sealing : Sealing B) (setup : Setup) (kinds : List ℕ)
+    (before : List (Controlling A)) (stables stables_after : List W) (left : Played B A G) : Type 0 where
   pub legal : IsLegalPast (scene_of sealing setup kinds) (results_in left.controllers.items) (past left.wire)
   pub within : IsWithinLimits sealing.size (past left.wire)
   pub members : (c : ℕ) → c < setup.controllers → IsMember law (scene_of sealing setup kinds) (results_in left.controllers.items) (past left.wire) left.controllers.items c
   pub paired : IsLeftPaired saving setup before stables stables_after left.controllers.items
 
 -- the threads did all steps: a world may take over what they left, and each actor's inputs are its own steps in order
-pub record HasPlayedApart {B A W : Type 0} (law : AppLaw A) (saving : Saving W) (sealing : Sealing B) (setup : Setup) (kinds : List ℕ) (steps : List Turn)
-    (before : List (Controlling A)) (stables stables_after : List W) (left : Played B A) : Type 0 where
+pub record HasPlayedApart {B G A W : Type 0} (law : AppLaw A) (saving : Saving W) (sealing : Sealing B) (setup : Setup) (kinds : List ℕ) (steps : List Turn)
+    (before : List (Controlling A)) (stables stables_after : List W) (left : Played B A G) : Type 0 where
   pub left_legal : IsLeftLegal law saving sealing setup kinds before stables stables_after left
   pub follows : FollowsApart (scene_of sealing setup kinds) (results_in left.controllers.items) steps (past left.wire)
   pub played : IsPlayed law sealing (resting_world setup left.wire left.controllers.items left.switches.items) kinds
 
 -- why threads were cut short, and what they left
-abbrev pub HaltsApart : {B A W : Type 0} → AppLaw A → Saving W → Sealing B → Setup → List ℕ → List Turn →
-    List (Controlling A) → List W → List W → Played B A → Stop → Type 0
+abbrev pub HaltsApart : {B G A W : Type 0} → AppLaw A → Saving W → Sealing B → Setup → List ℕ → List Turn →
+    List (Controlling A) → List W → List W → Played B A G → Stop → Type 0
 HaltsApart law saving sealing setup kinds steps before stables stables_after left OutOfMemory =
     IsLeftPaired saving setup before stables stables_after left.controllers.items
 HaltsApart law saving sealing setup kinds steps before stables stables_after left (JournalFull bytes letters) =

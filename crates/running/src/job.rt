@@ -10,11 +10,10 @@ ghost use Rattle.running.specs.Jobs.{HasDone, PlaysOn, StopsIn};
 
 use crate::next::next_input;
 use crate::seated::Seated;
-use journal::{Gate, Letters, Stop, Turn};
+use journal::{Gate, Mailbag, Stop, Turn};
 use players::Body;
 use shared_wire::{Board, Place};
 use std::alloc::Global;
-use std::mem;
 use std::sync::Wait;
 use thread_rules::is_own;
 
@@ -23,7 +22,7 @@ use thread_rules::is_own;
 pub struct Job<B: Body, P: Drop> {
     pub place: Place<B>,
     pub player: P,
-    pub owed: Letters<B>,
+    pub owed: Mailbag<B>,
 }
 
 /// Takes one step of its own: posts what is owed, and takes the entry of the step, in one exchange of the wire, and does then
@@ -54,7 +53,7 @@ fn take_step<P: Seated<B> + Drop, B: Body, R: Wait>(
     job.place.lawful();
     let heard = answer?;
     if let Some(input) = heard {
-        job.owed = job.player.take(alloc, input)?;
+        job.player.take(input, &mut job.owed)?;
     }
     Ok(())
 }
@@ -62,7 +61,6 @@ fn take_step<P: Seated<B> + Drop, B: Body, R: Wait>(
 /// Posts the last outbox.
 fn post_last<P: Seated<B> + Drop, B: Body, R: Wait>(
     rt: &R,
-    alloc: Global,
     board: &Board<B>,
     job: &mut Job<B, P>,
 ) -> Result<(), Stop>
@@ -78,16 +76,11 @@ fn post_last<P: Seated<B> + Drop, B: Body, R: Wait>(
 {
     job.place.lawful();
     job.player.rests();
-    let post = mem::replace(&mut job.owed, Letters::new(alloc));
-    let answer = board.post(rt, &mut job.place, post);
+    let answer = board.post(rt, &mut job.place, &job.owed);
     job.place.lawful();
-    match answer {
-        Ok(()) => Ok(()),
-        Err(refused) => {
-            job.owed = refused.post;
-            Err(refused.cause)
-        }
-    }
+    answer?;
+    job.owed.clear();
+    Ok(())
 }
 
 /// Passes the gate and takes a step, where it is its own.
@@ -166,5 +159,5 @@ pub fn play_alone<P: Seated<B> + Drop, B: Body, G: Gate, R: Wait>(
         IfErr result (StopsIn (P.plays setup kinds job.old.place.actor start) B.sealing.size steps.now job.new) }
 {
     do_own_steps::<P, B, G, R>(rt, alloc, gate, board, job, steps)?;
-    post_last::<P, B, R>(rt, alloc, board, job)
+    post_last::<P, B, R>(rt, board, job)
 }

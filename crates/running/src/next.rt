@@ -8,11 +8,10 @@ ghost use Rattle.shared_wire.specs.Calls.{Adds};
 ghost use Rattle.shared_wire.specs.Places.{IsSamePlace};
 ghost use Rattle.running.specs.Hearing.{Advances, StopsAt};
 
-use journal::{Letters, Local, PacketPlace, Stop, Turn};
+use journal::{Local, Mailbag, PacketPlace, Stop, Turn};
 use players::{Body, Player, heard};
 use shared_wire::{Board, Place};
 use std::alloc::Global;
-use std::mem;
 use std::sync::Wait;
 use world::fits_types;
 
@@ -23,7 +22,7 @@ pub fn next_input<P: Player, B: Body, R: Wait>(
     alloc: Global,
     board: &Board<B>,
     place: &mut Place<B>,
-    owed: &mut Letters<B>,
+    owed: &mut Mailbag<B>,
     step: &Turn,
 ) -> Result<Option<P::Input>, Stop>
     requires board { place.old.board ≡ board.now.id }
@@ -37,18 +36,17 @@ pub fn next_input<P: Player, B: Body, R: Wait>(
         Turn::Draw { choice, keep, .. } => {
             draws::<P, B, R>(rt, alloc, board, place, owed, *choice, *keep)
         }
-        Turn::Lose { choice, .. } => loses::<P, B, R>(rt, alloc, board, place, owed, *choice),
-        Turn::Local { input, .. } => takes_local::<P, B, R>(rt, alloc, board, place, owed, input),
+        Turn::Lose { choice, .. } => loses::<P, B, R>(rt, board, place, owed, *choice),
+        Turn::Local { input, .. } => takes_local::<P, B, R>(rt, board, place, owed, input),
     }
 }
 
 /// Posts what is owed and draws, in one exchange. At a refusal it is owed as before.
 fn draw_next<B: Body, R: Wait>(
     rt: &R,
-    alloc: Global,
     board: &Board<B>,
     place: &mut Place<B>,
-    owed: &mut Letters<B>,
+    owed: &mut Mailbag<B>,
     choice: u64,
     keep: bool,
 ) -> Result<Option<PacketPlace>, Stop>
@@ -59,14 +57,9 @@ fn draw_next<B: Body, R: Wait>(
     ensures found { IfOk result (λ found. IsFound place.new.seen found (pick place.old.actor choice (drop 1 (past place.new.seen)))) }
     ensures err { IfErr result (StopsAt B.sealing.size place.old place.new owed.old owed.new) }
 {
-    let post = mem::replace(owed, Letters::new(alloc));
-    match board.draw(rt, place, post, choice, keep) {
-        Ok(found) => Ok(found),
-        Err(refused) => {
-            *owed = refused.post;
-            Err(refused.cause)
-        }
-    }
+    let found = board.draw(rt, place, owed, choice, keep)?;
+    owed.clear();
+    Ok(found)
 }
 
 /// Posts what is owed, draws, and tells what the packet says.
@@ -75,7 +68,7 @@ fn draws<P: Player, B: Body, R: Wait>(
     alloc: Global,
     board: &Board<B>,
     place: &mut Place<B>,
-    owed: &mut Letters<B>,
+    owed: &mut Mailbag<B>,
     choice: u64,
     keep: bool,
 ) -> Result<Option<P::Input>, Stop>
@@ -85,22 +78,22 @@ fn draws<P: Player, B: Body, R: Wait>(
     ensures ok { IfOk result (Advances B.sealing P.hears P.locally place.old place.new owed.old (turn.Draw place.old.actor choice keep)) }
     ensures err { IfErr result (StopsAt B.sealing.size place.old place.new owed.old owed.new) }
 {
-    let Some(packet) = draw_next(rt, alloc, board, place, owed, choice, keep)? else {
+    let Some(packet) = draw_next(rt, board, place, owed, choice, keep)? else {
         return Ok(None);
     };
     place.lawful();
-    let body = board.copy_body(rt, place, packet)?;
-    let input = heard::<P, B>(alloc, packet.from, packet.to, &body)?;
+    let mut letter = Mailbag::new(alloc);
+    board.copy_letter(rt, place, packet, &mut letter)?;
+    let input = heard::<P, B>(alloc, packet.from, packet.to, &letter, 0)?;
     Ok(Some(input))
 }
 
 /// Posts what is owed, and loses a packet.
 fn loses<P: Player, B: Body, R: Wait>(
     rt: &R,
-    alloc: Global,
     board: &Board<B>,
     place: &mut Place<B>,
-    owed: &mut Letters<B>,
+    owed: &mut Mailbag<B>,
     choice: u64,
 ) -> Result<Option<P::Input>, Stop>
     requires { place.old.board ≡ board.now.id }
@@ -109,23 +102,17 @@ fn loses<P: Player, B: Body, R: Wait>(
     ensures ok { IfOk result (Advances B.sealing P.hears P.locally place.old place.new owed.old (turn.Lose place.old.actor choice)) }
     ensures err { IfErr result (StopsAt B.sealing.size place.old place.new owed.old owed.new) }
 {
-    let post = mem::replace(owed, Letters::new(alloc));
-    match board.lose(rt, place, post, choice) {
-        Ok(_) => Ok(None),
-        Err(refused) => {
-            *owed = refused.post;
-            Err(refused.cause)
-        }
-    }
+    let _ = board.lose(rt, place, owed, choice)?;
+    owed.clear();
+    Ok(None)
 }
 
 /// Posts what is owed, and takes a local input.
 fn takes_local<P: Player, B: Body, R: Wait>(
     rt: &R,
-    alloc: Global,
     board: &Board<B>,
     place: &mut Place<B>,
-    owed: &mut Letters<B>,
+    owed: &mut Mailbag<B>,
     input: &Local,
 ) -> Result<Option<P::Input>, Stop>
     requires { place.old.board ≡ board.now.id }
@@ -137,12 +124,7 @@ fn takes_local<P: Player, B: Body, R: Wait>(
     fits_types(input);
     let mine = P::take_local(input.copy()?);
     let its = input.copy()?;
-    let post = mem::replace(owed, Letters::new(alloc));
-    match board.local(rt, place, post, its) {
-        Ok(()) => Ok(Some(mine)),
-        Err(refused) => {
-            *owed = refused.post;
-            Err(refused.cause)
-        }
-    }
+    board.local(rt, place, owed, its)?;
+    owed.clear();
+    Ok(Some(mine))
 }

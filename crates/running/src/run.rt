@@ -11,7 +11,7 @@ ghost use Rattle.running.specs.Playing.{ServedPlays, SwitchPlays};
 ghost use Rattle.running.specs.Tasks.{AllRan, MayBegin};
 ghost use Rattle.running.specs.Threads.{HaltsApart, HasPlayedApart, StartsApart};
 ghost use Rattle.running.specs.Runs.{actors_up_to, seated, served};
-ghost use Rattle.running.specs.Together.{HasRoom, HavePlayed};
+ghost use Rattle.running.specs.Together.{HasRoom, HavePlayed, MembersMayBegin, OthersMayBegin};
 
 use crate::leaving::{close, part, put_back, take_apart};
 use crate::ready::Ready;
@@ -83,6 +83,8 @@ fn run_both<
     members: Vec<Task<B, Served<A, W>>>,
     others: Vec<Task<B, Switch>>,
 ) -> (Vec<Task<B, Served<A, W>>>, Vec<Task<B, Switch>>)
+where
+    B::Bag: Send,
     requires members { All (MayBegin (ServedPlays A.law W.saving B.sealing) board.now.id steps.now) members.items }
     requires others { All (MayBegin (SwitchPlays B.sealing) board.now.id steps.now) others.items }
     ensures long { (vec_len result.0 ≡ vec_len members) × (vec_len result.1 ≡ vec_len others) }
@@ -117,14 +119,14 @@ fn play_together<
     switches: Vec<Switch>,
     stables: &mut Vec<W>,
 ) -> (Played<B, A>, Option<Stop>)
+where
+    B::Bag: Send,
     requires room { HasRoom (vec_len controllers) (vec_len switches) (vec_len stables.old) ready }
     requires places { ready.places.items ≡ map (fresh ready.board.id) ready.board.actors }
     requires actors { ready.board.actors ≡ actors_up_to (length controllers.items) (length switches.items) }
     requires served { vec_len controllers ≤ vec_len stables.old }
-    requires members { All (MayBegin (ServedPlays A.law W.saving B.sealing) ready.board.id steps.now)
-        (seated ready.places.items (served controllers.items stables.old.items)) }
-    requires others { All (MayBegin (SwitchPlays B.sealing) ready.board.id steps.now)
-        (seated (drop (length controllers.items) ready.places.items) switches.items) }
+    requires members { MembersMayBegin A.law W.saving B.sealing steps.now ready controllers.items stables.old.items }
+    requires others { OthersMayBegin B.sealing steps.now ready (length controllers.items) switches.items }
     ensures { HavePlayed A.law W.saving B.sealing steps.now ready.places.items controllers.items switches.items
         stables.old.items stables.new.items result.0 result.1 }
 {
@@ -179,6 +181,8 @@ fn run_actors<
     controllers: Vec<Controller<A>>,
     switches: Vec<Switch>,
 ) -> Result<Played<B, A>, Halt<B, A>>
+where
+    B::Bag: Send,
     requires some { (0 < vec_len controllers) × (vec_len controllers < 256) × (vec_len switches < 256) }
     requires served { vec_len controllers ≤ vec_len stables.old }
     requires starts { (kinds : List ℕ) × StartsApart A.law W.saving setup.now kinds steps.now controllers.items switches.items stables.old.items }
@@ -230,6 +234,8 @@ pub fn run_threads<
     stables: &mut Vec<W>,
     steps: &[Turn],
 ) -> Result<World<B, A>, Halt<B, A>>
+where
+    B::Bag: Send,
     requires holds { (kinds : List ℕ) × Holds A.law B.sealing world kinds }
     requires pairs { PairsStand W.saving stables.old.items world.controllers }
     requires rests { world.owed ≡ None }

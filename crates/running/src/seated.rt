@@ -1,5 +1,5 @@
 //! Actors that play their own steps: a switch, and a controller beside what it saves to.
-ghost use Rattle.std.specs.Prelude.{◌≡◌, ◌∷◌, ℕ, ◌++◌, List, Option, Some, None, [], IfOk, OnErr};
+ghost use Rattle.std.specs.Prelude.{◌≡◌, ◌∷◌, ℕ, ◌++◌, List, Option, Some, None, [], OnOk, OnErr};
 ghost use Rattle.of_types.specs.declared.setup.Setup.{Setup};
 ghost use Rattle.journal.specs.declared.journal.Actor.{Actor};
 ghost use Rattle.journal.specs.declared.journal.JournalEntry.{JournalEntry};
@@ -14,7 +14,7 @@ ghost use Rattle.running.specs.Playing.{ServedPlays, SwitchPlays};
 
 use app_core::App;
 use group_controller::{Controller, ControllerInput, ControllerSays, Mails};
-use journal::{Letters, Local, Stable};
+use journal::{Local, Mailbag, Stable};
 use of_switch::{Switch, SwitchInput, SwitchSays};
 use players::{Body, Player, sealed_turn};
 use run_spec::Unsealed;
@@ -36,18 +36,20 @@ pub trait Seated<B: Body>: Player {
             Hears B.sealing Self.hears Self.locally e found None →
             plays setup kinds a start own self.now [] → plays setup kinds a start ((e, found) ∷ own) self.now [] };
 
-    /// Takes an input, and says what it says, sealed. Where it finds no memory, what it says is lost, or its input is refused.
-    fn take(&mut self, alloc: Global, input: Self::Input) -> Result<Letters<B>, AllocError>
-        requires { (setup : Setup) × (kinds : List ℕ) × (a : Actor) × (start : Self) × (own : List (JournalEntry B × Option (Packet B))) ×
+    /// Takes an input, and what it says is sealed into an empty bag. Where it finds no memory, what it says is lost, or its input is refused.
+    fn take(&mut self, input: Self::Input, owed: &mut Mailbag<B>) -> Result<(), AllocError>
+        requires empty { owed.old ≡ [] }
+        requires plays { (setup : Setup) × (kinds : List ℕ) × (a : Actor) × (start : Self) × (own : List (JournalEntry B × Option (Packet B))) ×
             plays setup kinds a start own self.old [] }
         ensures takes { (setup : Setup) (kinds : List ℕ) (a : Actor) (start : Self) (own : List (JournalEntry B × Option (Packet B)))
             (e : JournalEntry B) (found : Option (Packet B)) →
             Hears B.sealing Self.hears Self.locally e found (Some input) → plays setup kinds a start own self.old [] →
-            IfOk result (λ letters. plays setup kinds a start ((e, found) ∷ own) self.new letters) }
+            OnOk result (plays setup kinds a start ((e, found) ∷ own) self.new owed.new) }
         ensures wants { (setup : Setup) (kinds : List ℕ) (a : Actor) (start : Self) (own : List (JournalEntry B × Option (Packet B)))
             (e : JournalEntry B) (found : Option (Packet B)) →
             Hears B.sealing Self.hears Self.locally e found (Some input) → plays setup kinds a start own self.old [] →
-            OnErr result (HasPlayedSome (plays setup kinds a start) self.new) };
+            OnErr result (HasPlayedSome (plays setup kinds a start) self.new) }
+        ensures lost { OnErr result (owed.new ≡ []) };
 }
 
 impl<B: Body> Seated<B> for Switch {
@@ -55,8 +57,8 @@ impl<B: Body> Seated<B> for Switch {
 
     fn rests(&self) {}
 
-    fn take(&mut self, alloc: Global, input: SwitchInput) -> Result<Letters<B>, AllocError> {
-        sealed_turn::<Switch, (), B>(alloc, self, &mut (), input)
+    fn take(&mut self, input: SwitchInput, owed: &mut Mailbag<B>) -> Result<(), AllocError> {
+        sealed_turn::<Switch, (), B>(self, &mut (), input, owed)
     }
 }
 
@@ -94,8 +96,8 @@ impl<A: App, W: Stable> Player for Served<A, W> {
         Controller::<A>::fits(post)
     }
 
-    fn seal<C: Body>(alloc: Global, post: &Mails) -> Result<Letters<C>, AllocError> {
-        Controller::<A>::seal::<C>(alloc, post)
+    fn seal<C: Body>(post: &Mails, bag: &mut Mailbag<C>) -> Result<(), AllocError> {
+        Controller::<A>::seal::<C>(post, bag)
     }
 }
 
@@ -104,7 +106,7 @@ impl<B: Body, A: App, W: Stable> Seated<B> for Served<A, W> {
 
     fn rests(&self) {}
 
-    fn take(&mut self, alloc: Global, input: ControllerInput) -> Result<Letters<B>, AllocError> {
-        sealed_turn::<Controller<A>, W, B>(alloc, &mut self.controller, &mut self.stable, input)
+    fn take(&mut self, input: ControllerInput, owed: &mut Mailbag<B>) -> Result<(), AllocError> {
+        sealed_turn::<Controller<A>, W, B>(&mut self.controller, &mut self.stable, input, owed)
     }
 }

@@ -8,7 +8,7 @@ use crate::seated::Served;
 use crate::task::Task;
 use app_core::App;
 use group_controller::Controller;
-use journal::{Letters, Stable};
+use journal::{Mailbag, Stable};
 use players::Body;
 use shared_wire::Place;
 use std::alloc::Global;
@@ -65,7 +65,7 @@ fn task_at<B: Body, P: Drop>(alloc: Global, place: Place<B>, player: P) -> Task<
         job: Job {
             place,
             player,
-            owed: Letters::new(alloc),
+            owed: Mailbag::new(alloc),
         },
         stop: None,
     }

@@ -49,6 +49,7 @@ fn run_tasks<P: Seated<B> + Drop + Send, B: Body + Send, G: Gate + Sync, R: Thre
     tasks: &mut [Task<B, P>],
 )
 where
+    B::Bag: Send,
     P::Input: Send,
     P::Says: Send,
     P::Post: Send,
@@ -62,9 +63,10 @@ where
         rt,
         tasks,
         tasks.len(),
-        &|_, task| {
-            run_task::<P, B, G, R>(rt, alloc, gate, board, steps, task);
-        },
+        &|_: usize, task: &mut Task<B, P>|
+            requires { MayBegin P.plays board.now.id steps.now task.now }
+            ensures { WasRun P.plays B.sealing.size steps.entry.now task.entry.now task.exit.now }
+        { run_task::<P, B, G, R>(rt, alloc, gate, board, steps, task) },
     );
 }
 
@@ -83,6 +85,7 @@ pub fn run_all<
     tasks: Vec<Task<B, P>>,
 ) -> Vec<Task<B, P>>
 where
+    B::Bag: Send,
     P::Input: Send,
     P::Says: Send,
     P::Post: Send,

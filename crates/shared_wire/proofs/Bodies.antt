@@ -1,9 +1,12 @@
 -- What stands at a place that was seen.
-use Rattle.std.proofs.Common.{◌≡◌, ℕ, Option, Some, None, List, ◌++◌, refl, sym, ap, ◌∙◌, subst, Result, Ok, Err, IfOk}
+use Rattle.std.proofs.Common.{◌≡◌, ◌<◌, ℕ, Option, Some, None, List, [], ◌∷◌, ◌++◌, length, refl, sym, ap, ◌∙◌, subst, Result, Ok, Err, OnOk}
 use Rattle.std.specs.Prelude.{slice_get, IsSome, IfSome}
+use Rattle.std.proofs.lemmas.Option.{slice_get_within}
 use Rattle.journal.specs.declared.journal.JournalEntry.{JournalEntry}
+use Rattle.journal.specs.declared.journal.Letter.{Letter}
 use Rattle.journal.specs.declared.journal.Packet.{Packet}
 use Rattle.journal.specs.declared.place.PacketPlace.{PacketPlace}
+use Rattle.journal.specs.Mailbags.{HasBody}
 use Rattle.journal.specs.Places.{packet_in, packet_at}
 use Rattle.journal.proofs.Placing.{slice_get-append}
 use Rattle.shared_wire.specs.Rule.{StartsWith}
@@ -21,7 +24,17 @@ module _ {B : Type 0} where
   pub still_seen : (packet : PacketPlace) (front journal : List (JournalEntry B)) → StartsWith journal front → IsSome (packet_at packet front) → IsSome (packet_at packet journal)
   still_seen packet front journal begins some = subst IsSome (sym (stays packet front journal begins some)) some
 
-  -- a copy of what is lent at a place is what stood there
-  pub copied_is : {E : Type 0} (now then : Option (Packet B)) (lent : B) (r : Result B E) → now ≡ then → IfSome now (λ p. lent ≡ p.body) → IfOk r (λ body. body ≡ lent) → IfOk r (λ body. IfSome then (λ p. body ≡ p.body))
-  copied_is now then lent (Err e) same stands copied = tt
-  copied_is now then lent (Ok body) same stands copied = subst (λ o. IfSome o (λ p. body ≡ p.body)) same (subst (λ l. IfSome now (λ p. l ≡ p.body)) (sym copied) stands)
+  -- the letter at a place is among those that are lent
+  pub lent_within : (found : Option (Packet B)) (letters : List (Letter B)) (index : ℕ) → IsSome found → IfSome found (λ p. HasBody letters index p.body) → index < length letters
+  lent_within None letters index some lent = cc
+  lent_within (Some p) letters index some lent = slice_get_within letters index lent.0 lent.1
+
+  -- a copy of it has the body of the packet that stood there
+  pub copied_is : {E : Type 0} (now then : Option (Packet B)) (letters before after : List (Letter B)) (index : ℕ) (r : Result (Unit {0}) E) → now ≡ then → IfSome now (λ p. HasBody letters index p.body) →
+      OnOk r (IfSome (slice_get letters index) (λ letter. after ≡ before ++ letter ∷ [])) → OnOk r (IfSome then (λ p. (letter : Letter B) × (after ≡ before ++ letter ∷ []) × (letter.body ≡ p.body)))
+  copied_is now then letters before after index (Err e) same lent copied = tt
+  copied_is now then letters before after index (Ok x) same lent copied = subst (λ o. IfSome o (λ p. (letter : Letter B) × (after ≡ before ++ letter ∷ []) × (letter.body ≡ p.body))) same (came now lent)
+    where
+      came : (o : Option (Packet B)) → IfSome o (λ p. HasBody letters index p.body) → IfSome o (λ p. (letter : Letter B) × (after ≡ before ++ letter ∷ []) × (letter.body ≡ p.body))
+      came None h = tt
+      came (Some p) h = (h.0, subst (λ o. IfSome o (λ (letter : Letter B). after ≡ before ++ letter ∷ [])) h.1 copied, h.2)

@@ -15,7 +15,6 @@ use Rattle.atomic_table.specs.Table.{State, Me, Step, Act, keeps, takes, gives, 
 use Rattle.atomic_table.proofs.Lists.{at_set, set_here, set_else, set_again, at_longer, exchanged}
 use Rattle.journal.specs.declared.journal.Actor.{Actor}
 use Rattle.journal.specs.declared.journal.JournalEntry.{JournalEntry}
-use Rattle.journal.specs.declared.wire.Wire.{Wire}
 use Rattle.journal.specs.Actors.{same_actor, actor_of}
 use Rattle.journal.specs.Part.{part}
 use Rattle.journal.specs.Pool.{past}
@@ -28,13 +27,13 @@ use Rattle.shared_wire.proofs.Lists.{at_unmap, not_there, only, one_at, below, a
 use Rattle.shared_wire.proofs.Parts.{same_refl, not_same, not_before, AllBy, part-other, part-unnamed}
 
 abbrev Table : Type 0 → Type 0
-Table B = State (Option (Wire B)) (View B)
+Table B = State (Option (List (JournalEntry B))) (View B)
 
 abbrev Mine : Type 0 → Type 0
-Mine B = Me (Option (Wire B)) (View B)
+Mine B = Me (Option (List (JournalEntry B))) (View B)
 
 abbrev Homes : Type 0 → Type 0
-Homes B = List (maybe.Option (Option (Wire B)))
+Homes B = List (maybe.Option (Option (List (JournalEntry B))))
 
 module _ {B : Type 0} where
   pub opens : (actors : List Actor) → IsDistinct same_actor actors → IsRuled {B = B} actors (opening (0 ∷ []) (Some [] ∷ []) (first_view actors))
@@ -58,7 +57,7 @@ module _ {B : Type 0} where
   }
 
   -- the same of a key and slots that are these
-  pub opens_as : (actors key : List Actor) (slots : List (Option (Wire B))) → key ≡ actors → slots ≡ Some [] ∷ [] → IsDistinct same_actor actors → IsRuled key (opening (0 ∷ []) slots (first_view key))
+  pub opens_as : (actors key : List Actor) (slots : List (Option (List (JournalEntry B)))) → key ≡ actors → slots ≡ Some [] ∷ [] → IsDistinct same_actor actors → IsRuled key (opening (0 ∷ []) slots (first_view key))
   opens_as actors key slots k sl d = rw (k, sl) (opens actors d)
 
   -- a seat that knows an actor is not the first one
@@ -130,10 +129,10 @@ module _ {B : Type 0} where
 
   -- a step of the word 0, by what it becomes
   abbrev Goes : List Actor → Table B → ℕ → Mine B → (ℕ → Mine B → Type 0) → ℕ → Type 0
-  Goes actors s id me then n = (w : View B) × (a : Act (Option (Wire B))) × Valid s.homes me.1 a × IsRuled actors (stepped s 0 n id me.1 w a) × then (slice_index s.words 0) (w, carried_after me.1 a)
+  Goes actors s id me then n = (w : View B) × (a : Act (Option (List (JournalEntry B)))) × Valid s.homes me.1 a × IsRuled actors (stepped s 0 n id me.1 w a) × then (slice_index s.words 0) (w, carried_after me.1 a)
 
   -- an exchange that takes the wire, or finds none
-  pub takes_wire : (actors : List Actor) (slots id : ℕ) (me : Mine B) (k : Known B) (st : Step (Option (Wire B))) → me.0.known ≡ k ∷ []
+  pub takes_wire : (actors : List Actor) (slots id : ℕ) (me : Mine B) (k : Known B) (st : Step (Option (List (JournalEntry B)))) → me.0.known ≡ k ∷ []
       → Allows (IsRuled actors) slots id me 0 (λ n. either (eqb n 0) 1 n) (took st me)
   takes_wire actors slots id me k st kn s r wide at _ = let y : ℕ = slice_index s.words 0 in exchanged y 0 1 (Goes actors s id me (took st me))
       (λ hit. ⊎_elim
@@ -181,7 +180,7 @@ module _ {B : Type 0} where
       r.wire
 
   -- an exchange that gives the wire back
-  pub gives_wire : (actors : List Actor) (slots id : ℕ) (me : Mine B) (k : Known B) (st : Step (Option (Wire B))) (journal journal' entries : List (JournalEntry B)) → me.0.known ≡ k ∷ [] → me.0.held ≡ Some journal → me.1 ≡ (0, Some journal') ∷ []
+  pub gives_wire : (actors : List Actor) (slots id : ℕ) (me : Mine B) (k : Known B) (st : Step (Option (List (JournalEntry B)))) (journal journal' entries : List (JournalEntry B)) → me.0.known ≡ k ∷ [] → me.0.held ≡ Some journal → me.1 ≡ (0, Some journal') ∷ []
       → journal' ≡ journal ++ entries → AllBy k.actor entries → Allows (IsRuled actors) slots id me 0 (λ _. 0) (λ _. gave st me 0)
   gives_wire actors slots id me k st journal journal' entries kn held has is all s r wide at _ =
       let h = holder_is actors s r id me.0 journal at held in let away = h.0 in
@@ -398,7 +397,7 @@ module _ {B : Type 0} where
   abbrev pub Closes : List Actor → List (PlaceState B) → List (JournalEntry B) → Type 0
   Closes actors places journal = ((i : ℕ) (p : PlaceState B) → get_elem? places i ≡ some p → IsPartOf journal p) × AreNamed actors journal
 
-  pub closes : (key actors : List Actor) (v : View B) (id : ℕ) (words : List ℕ) (slots : List (Option (Wire B))) (places : List (PlaceState B)) → key ≡ actors → Final (Seen (IsRuled key) id v) words slots → v.held ≡ None
+  pub closes : (key actors : List Actor) (v : View B) (id : ℕ) (words : List ℕ) (slots : List (Option (List (JournalEntry B)))) (places : List (PlaceState B)) → key ≡ actors → Final (Seen (IsRuled key) id v) words slots → v.held ≡ None
       → KnowsEach v places → All (Contains (map (λ (p : PlaceState B). p.actor) places)) actors
       → (journal : List (JournalEntry B)) × (get_elem? slots 0 ≡ some (Some journal)) × Closes actors places journal
   closes key actors v id words slots places same final free each all =
@@ -414,5 +413,5 @@ module _ {B : Type 0} where
       )
 
   -- the same of the journal that was taken from the slot
-  pub closed : (actors : List Actor) (slots : List (Option (Wire B))) (places : List (PlaceState B)) (j : List (JournalEntry B)) → ((journal : List (JournalEntry B)) × (get_elem? slots 0 ≡ some (Some journal)) × Closes actors places journal) → get_elem? slots 0 ≡ some (Some j) → Closes actors places j
+  pub closed : (actors : List Actor) (slots : List (Option (List (JournalEntry B)))) (places : List (PlaceState B)) (j : List (JournalEntry B)) → ((journal : List (JournalEntry B)) × (get_elem? slots 0 ≡ some (Some journal)) × Closes actors places journal) → get_elem? slots 0 ≡ some (Some j) → Closes actors places j
   closed actors slots places j c at = subst (Closes actors places) (same_Some c.0 j (one_at slots 0 (Some c.0) (Some j) c.1 at)) c.2

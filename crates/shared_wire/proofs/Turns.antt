@@ -10,8 +10,7 @@ use Rattle.journal.specs.declared.journal.Packet.{Packet}
 use Rattle.journal.specs.declared.journal.Turn.{Turn}
 use Rattle.journal.specs.declared.journal.Turn.TheVariants as turn
 use Rattle.journal.specs.declared.place.PacketPlace.{PacketPlace}
-use Rattle.journal.specs.declared.wire.Refused.{Refused}
-use Rattle.journal.specs.declared.wire.Wire.{Wire}
+use Rattle.journal.specs.declared.wire.Stop.{Stop}
 use Rattle.journal.specs.Actors.{actor_of}
 use Rattle.journal.specs.Answers.{RefusedBy}
 use Rattle.journal.specs.Part.{part}
@@ -57,8 +56,8 @@ module _ {B : Type 0} where
   before_input size (l ∷ letters) step j = ap (drop 1) (reverse-append j (turn_entries size (l ∷ letters) step (past j)))
 
   -- whatever the answer, the journal grew by entries of the actor alone
-  pub grows : {T : Type 0} (size : B → ℕ) (a : Actor) (j j' : List (JournalEntry B)) (post : List (Letter B)) (entries : List (JournalEntry B)) (r : Result T (Refused B)) → AllBy a entries → OnOk r (j' ≡ j ++ entries)
-      → IfErr r (λ x. (j' ≡ j) × (x.post ≡ post) × RefusedBy size x.cause post (past j)) → (es : List (JournalEntry B)) × (j' ≡ j ++ es) × AllBy a es
+  pub grows : {T : Type 0} (size : B → ℕ) (a : Actor) (j j' : List (JournalEntry B)) (post : List (Letter B)) (entries : List (JournalEntry B)) (r : Result T Stop) → AllBy a entries → OnOk r (j' ≡ j ++ entries)
+      → IfErr r (λ stop. (j' ≡ j) × RefusedBy size stop post (past j)) → (es : List (JournalEntry B)) × (j' ≡ j ++ es) × AllBy a es
   grows size a j j' post entries (Ok x) all ok err = (entries, ok, all)
   grows size a j j' post entries (Err x) all ok err = ([], err.0 ∙ sym (append-nil j), tt)
 
@@ -70,7 +69,7 @@ module _ {B : Type 0} where
     pub true_of : IsTrueOf j k
     pub gave : w ≡ has_given (holding v j) j'
 
-  pub gave_back : (a : Actor) (j j' : List (JournalEntry B)) (k : Known B) (before holds after : Me (Option (Wire B)) (View B)) (held : List (ℕ × Option (List (JournalEntry B)))) → IsFree k before → k.actor ≡ a → IsTrueOf j k
+  pub gave_back : (a : Actor) (j j' : List (JournalEntry B)) (k : Known B) (before holds after : Me (Option (List (JournalEntry B))) (View B)) (held : List (ℕ × Option (List (JournalEntry B)))) → IsFree k before → k.actor ≡ a → IsTrueOf j k
       → holds ≡ (holding before.0 j, held) → after ≡ (has_given holds.0 j', []) → HasGiven a j j' before.0 after.0
   gave_back a j j' k before holds after held free actor_is true_of took gave = record {
     k = k;
@@ -120,13 +119,12 @@ module _ {B : Type 0} where
     }
 
     -- what a call did not add
-    pub refuses : {T : Type 0} (size : B → ℕ) (z z' : TableId) (post : List (Letter B)) (r : Result T (Refused B))
-        → IfErr r (λ x. (j' ≡ j) × (x.post ≡ post) × RefusedBy size x.cause post (past j)) → IfErr r (Refuses size (actor_place_of a z v) (actor_place_of a z' w) post)
+    pub refuses : {T : Type 0} (size : B → ℕ) (z z' : TableId) (post : List (Letter B)) (r : Result T Stop)
+        → IfErr r (λ stop. (j' ≡ j) × RefusedBy size stop post (past j)) → IfErr r (Refuses size (actor_place_of a z v) (actor_place_of a z' w) post)
     refuses size z z' post (Ok x) err = tt
-    refuses size z z' post (Err x) err = record {
+    refuses size z z' post (Err stop) err = record {
       nothing = adds_nothing z z' err.0;
-      back = err.1;
-      cause = subst (λ l. RefusedBy size x.cause post (past l)) (sym (seen_now ∙ err.0)) err.2;
+      cause = subst (λ l. RefusedBy size stop post (past l)) (sym (seen_now ∙ err.0)) err.1;
     }
 
     -- what a draw or a loss found stands before its input

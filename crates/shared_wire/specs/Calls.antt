@@ -3,7 +3,7 @@ use Rattle.std.specs.Prelude.{◌≡◌, ℕ, Option, List, [], ◌∷◌, ◌++
 use Rattle.journal.specs.declared.journal.JournalEntry.{JournalEntry}
 use Rattle.journal.specs.declared.journal.Letter.{Letter}
 use Rattle.journal.specs.declared.journal.Packet.{Packet}
-use Rattle.journal.specs.declared.wire.Refused.{Refused}
+use Rattle.journal.specs.declared.wire.Stop.{Stop}
 use Rattle.journal.specs.Answers.{RefusedBy}
 use Rattle.journal.specs.Part.{part, drawn}
 use Rattle.journal.specs.Pool.{past}
@@ -29,8 +29,7 @@ pub record AddsNothing {B : Type 0} (p q : PlaceState B) : Type 0 where
   pub own : q.own ≡ p.own
   pub later : StartsWith q.seen p.seen
 
--- Nothing was added, and the letters came back. The journal that the call met tells the cause
-pub record Refuses {B : Type 0} (size : B → ℕ) (p q : PlaceState B) (post : List (Letter B)) (r : Refused B) : Type 0 where
+-- Nothing was added. The journal that the call met tells the cause
+pub record Refuses {B : Type 0} (size : B → ℕ) (p q : PlaceState B) (post : List (Letter B)) (stop : Stop) : Type 0 where
   pub nothing : AddsNothing p q
-  pub back : r.post ≡ post
-  pub cause : RefusedBy size r.cause post (past q.seen)
+  pub cause : RefusedBy size stop post (past q.seen)

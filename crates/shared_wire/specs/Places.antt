@@ -8,7 +8,6 @@ pub use Rattle.atomic_table.specs.Seated.{TableId}
 use Rattle.journal.specs.declared.journal.Actor.{Actor}
 use Rattle.journal.specs.declared.journal.JournalEntry.{JournalEntry}
 use Rattle.journal.specs.declared.journal.Packet.{Packet}
-use Rattle.journal.specs.declared.wire.Wire.{Wire}
 use Rattle.journal.specs.Actors.{actor_of}
 use Rattle.journal.specs.Part.{part}
 use Rattle.journal.specs.Pool.{past}
@@ -55,7 +54,7 @@ module _ {B : Type 0} where
   known_of p = knowing p.actor p.own p.seen
 
   -- the seat knows this alone, and holds nothing
-  abbrev pub IsFree : Known B → Me (Option (Wire B)) (View B) → Type 0
+  abbrev pub IsFree : Known B → Me (Option (List (JournalEntry B))) (View B) → Type 0
   IsFree k me = (me.0.known ≡ k ∷ []) × (me.0.held ≡ None) × (me.1 ≡ [])
 
   -- the view knows what each of the places knew
@@ -63,7 +62,7 @@ module _ {B : Type 0} where
   KnowsEach v places = (i : ℕ) (p : PlaceState B) → get_elem? places i ≡ some p → (j : ℕ) × (get_elem? v.known j ≡ some (known_of p))
 
 -- the seat knows one actor, and the journal is the one that it holds, grown by entries of this actor
-pub record Grows {B : Type 0} (me : Me (Option (Wire B)) (View B)) (journal : List (JournalEntry B)) : Type 0 where
+pub record Grows {B : Type 0} (me : Me (Option (List (JournalEntry B))) (View B)) (journal : List (JournalEntry B)) : Type 0 where
   pub about : Known B
   pub taken : List (JournalEntry B)
   pub entries : List (JournalEntry B)

@@ -7,7 +7,6 @@ use Rattle.atomic_table.specs.Table.{State, Me, Step, rest}
 use Rattle.journal.specs.declared.journal.Actor.{Actor}
 use Rattle.journal.specs.declared.journal.JournalEntry.{JournalEntry}
 use Rattle.journal.specs.declared.journal.Packet.{Packet}
-use Rattle.journal.specs.declared.wire.Wire.{Wire}
 use Rattle.journal.specs.Actors.{same_actor, actor_of}
 use Rattle.journal.specs.Part.{part}
 use Rattle.journal.specs.Pool.{past}
@@ -42,13 +41,13 @@ module _ {B : Type 0} where
   IsKnownAt views a at = (v : View B) × (k : Known B) × (get_elem? views at.0 ≡ some v) × (get_elem? v.known at.1 ≡ some k) × (k.actor ≡ a)
 
 -- the wire lies in its slot, and no seat holds it
-pub record AtHome {B : Type 0} (journal : List (JournalEntry B)) (s : State (Option (Wire B)) (View B)) : Type 0 where
+pub record AtHome {B : Type 0} (journal : List (JournalEntry B)) (s : State (Option (List (JournalEntry B))) (View B)) : Type 0 where
   pub word : s.words ≡ 0 ∷ []
   pub slot : s.homes ≡ some (Some journal) ∷ []
   pub free : (i : ℕ) (v : View B) → get_elem? s.views i ≡ some v → v.held ≡ None
 
 -- one seat alone holds the wire, and it knows an actor
-pub record Away {B : Type 0} (journal : List (JournalEntry B)) (s : State (Option (Wire B)) (View B)) : Type 0 where
+pub record Away {B : Type 0} (journal : List (JournalEntry B)) (s : State (Option (List (JournalEntry B))) (View B)) : Type 0 where
   pub holder : ℕ
   pub sees : View B
   pub about : Known B
@@ -68,7 +67,7 @@ pub record IsFirstSeat {B : Type 0} (actors : List Actor) (journal : List (Journ
   pub named : AreNamed v.seated journal
 
 -- the rule, for these actors
-pub record IsRuled {B : Type 0} (actors : List Actor) (s : State (Option (Wire B)) (View B)) : Type 0 where
+pub record IsRuled {B : Type 0} (actors : List Actor) (s : State (Option (List (JournalEntry B))) (View B)) : Type 0 where
   pub journal : List (JournalEntry B)
   pub place : Actor → ℕ × ℕ
   pub distinct : IsDistinct same_actor actors
@@ -106,17 +105,17 @@ module _ {B : Type 0} where
   has_given v journal = seat_view_of (map (λ (k : Known B). knowing k.actor (part k.actor (past journal)) journal) v.known) v.seated v.unseated None
 
   -- 0 was found and the wire taken, of which all that was known is true; or nothing changed
-  abbrev pub took : Step (Option (Wire B)) → Me (Option (Wire B)) (View B) → ℕ → Me (Option (Wire B)) (View B) → Type 0
+  abbrev pub took : Step (Option (List (JournalEntry B))) → Me (Option (List (JournalEntry B))) (View B) → ℕ → Me (Option (List (JournalEntry B))) (View B) → Type 0
   took s m n m' =
       (n ≡ 0 → (journal : List (JournalEntry B)) × (m' ≡ (holding m.0 journal, (0, Some journal) ∷ m.1)) × ((i : ℕ) (k : Known B) → get_elem? m.0.known i ≡ some k → IsTrueOf journal k))
       × (n ≢ 0 → m' ≡ m)
 
   -- the journal that lies in the slot that was taken last
-  abbrev pub given_of : List (ℕ × Option (Wire B)) → List (JournalEntry B)
+  abbrev pub given_of : List (ℕ × Option (List (JournalEntry B))) → List (JournalEntry B)
   given_of [] = []
   given_of ((slot, None) ∷ held) = []
   given_of ((slot, Some journal) ∷ held) = journal
 
   -- what lay in the slot has become the journal, and the seat has seen it
-  abbrev pub gave : Step (Option (Wire B)) → Me (Option (Wire B)) (View B) → ℕ → Me (Option (Wire B)) (View B) → Type 0
+  abbrev pub gave : Step (Option (List (JournalEntry B))) → Me (Option (List (JournalEntry B))) (View B) → ℕ → Me (Option (List (JournalEntry B))) (View B) → Type 0
   gave s m n m' = m' ≡ (has_given m.0 (given_of m.1), rest m.1)

@@ -21,7 +21,7 @@ use crate::hold::{give_wire, take_wire};
 use crate::place::Place;
 use crate::rule::{EndSeat, SeatNext, Slot, View, WireRule, WireSeat, WireTable};
 use atomic_table::{Closed, Table};
-use journal::{Actor, Letters, Local, PacketPlace, Refused, Weight, Wire};
+use journal::{Actor, Local, Mailbag, PacketPlace, Stop, Weight, Wire};
 use std::alloc::{AllocError, Global};
 use std::marker::Model;
 use std::sync::Wait;
@@ -159,16 +159,11 @@ impl<B: Weight> Board<B> {
     }
 
     /// Posts an outbox, in one exchange.
-    pub fn post<R: Wait>(
-        &self,
-        rt: &R,
-        place: &mut Place<B>,
-        post: Letters<B>,
-    ) -> Result<(), Refused<B>>
+    pub fn post<R: Wait>(&self, rt: &R, place: &mut Place<B>, post: &Mailbag<B>) -> Result<(), Stop>
         requires { place.old.board ≡ self.now.id }
         ensures place { IsSamePlace place.old place.new }
-        ensures ok { OnOk result (Adds place.old place.new (posting B.size place.old.actor post)) }
-        ensures err { IfErr result (Refuses B.size place.old place.new post) }
+        ensures ok { OnOk result (Adds place.old place.new (posting B.size place.old.actor post.now)) }
+        ensures err { IfErr result (Refuses B.size place.old place.new post.now) }
     {
         let mut wire = take_wire(rt, &self.table.shared, &mut place.seat);
         let answer = wire.post(place.actor, post);
@@ -183,15 +178,15 @@ impl<B: Weight> Board<B> {
         &self,
         rt: &R,
         place: &mut Place<B>,
-        post: Letters<B>,
+        post: &Mailbag<B>,
         choice: u64,
         keep: bool,
-    ) -> Result<Option<PacketPlace>, Refused<B>>
+    ) -> Result<Option<PacketPlace>, Stop>
         requires { place.old.board ≡ self.now.id }
         ensures place { IsSamePlace place.old place.new }
-        ensures ok { OnOk result (Adds place.old place.new (turn_entries B.size post (turn.Draw place.old.actor choice keep))) }
+        ensures ok { OnOk result (Adds place.old place.new (turn_entries B.size post.now (turn.Draw place.old.actor choice keep))) }
         ensures found { IfOk result (λ found. IsFound place.new.seen found (pick place.old.actor choice (drop 1 (past place.new.seen)))) }
-        ensures err { IfErr result (Refuses B.size place.old place.new post) }
+        ensures err { IfErr result (Refuses B.size place.old place.new post.now) }
     {
         let mut wire = take_wire(rt, &self.table.shared, &mut place.seat);
         let answer = wire.draw(place.actor, post, choice, keep);
@@ -205,14 +200,14 @@ impl<B: Weight> Board<B> {
         &self,
         rt: &R,
         place: &mut Place<B>,
-        post: Letters<B>,
+        post: &Mailbag<B>,
         choice: u64,
-    ) -> Result<Option<PacketPlace>, Refused<B>>
+    ) -> Result<Option<PacketPlace>, Stop>
         requires { place.old.board ≡ self.now.id }
         ensures place { IsSamePlace place.old place.new }
-        ensures ok { OnOk result (Adds place.old place.new (turn_entries B.size post (turn.Lose place.old.actor choice))) }
+        ensures ok { OnOk result (Adds place.old place.new (turn_entries B.size post.now (turn.Lose place.old.actor choice))) }
         ensures found { IfOk result (λ found. IsFound place.new.seen found (pick place.old.actor choice (drop 1 (past place.new.seen)))) }
-        ensures err { IfErr result (Refuses B.size place.old place.new post) }
+        ensures err { IfErr result (Refuses B.size place.old place.new post.now) }
     {
         let mut wire = take_wire(rt, &self.table.shared, &mut place.seat);
         let answer = wire.lose(place.actor, post, choice);
@@ -226,13 +221,13 @@ impl<B: Weight> Board<B> {
         &self,
         rt: &R,
         place: &mut Place<B>,
-        post: Letters<B>,
+        post: &Mailbag<B>,
         input: Local,
-    ) -> Result<(), Refused<B>>
+    ) -> Result<(), Stop>
         requires { place.old.board ≡ self.now.id }
         ensures place { IsSamePlace place.old place.new }
-        ensures ok { OnOk result (Adds place.old place.new (turn_entries B.size post (turn.Local place.old.actor input))) }
-        ensures err { IfErr result (Refuses B.size place.old place.new post) }
+        ensures ok { OnOk result (Adds place.old place.new (turn_entries B.size post.now (turn.Local place.old.actor input))) }
+        ensures err { IfErr result (Refuses B.size place.old place.new post.now) }
     {
         let mut wire = take_wire(rt, &self.table.shared, &mut place.seat);
         let answer = wire.local(place.actor, post, input);
@@ -241,23 +236,25 @@ impl<B: Weight> Board<B> {
         answer
     }
 
-    /// A copy of the body of a packet that this place has seen, by an exchange of its own, which adds
-    /// nothing. The body stays there, so after an `Err` the call may be made again.
-    pub fn copy_body<R: Wait>(
+    /// Adds a copy of the letter of a packet that this place has seen, by an exchange of its own, which adds
+    /// nothing to the wire. The letter stays there, so after an `Err` the call may be made again.
+    pub fn copy_letter<R: Wait>(
         &self,
         rt: &R,
         place: &mut Place<B>,
         packet: PacketPlace,
-    ) -> Result<B, AllocError>
+        into: &mut Mailbag<B>,
+    ) -> Result<(), AllocError>
         requires board { place.old.board ≡ self.now.id }
         requires seen { IsSome (packet_at packet place.old.seen) }
         ensures place { IsSamePlace place.old place.new }
         ensures nothing { AddsNothing place.old place.new }
         ensures stays { packet_at packet place.new.seen ≡ packet_at packet place.old.seen }
-        ensures copied { IfOk result (λ body. IfSome (packet_at packet place.old.seen) (λ p. body ≡ p.body)) }
+        ensures copied { OnOk result (IfSome (packet_at packet place.old.seen) (λ p. (letter : _) × (into.new ≡ into.old ++ letter ∷ []) × (letter.body ≡ p.body))) }
     {
         let wire = take_wire(rt, &self.table.shared, &mut place.seat);
-        let copied = wire.body(packet).copy();
+        let (letters, index) = wire.letter(packet);
+        let copied = into.copy(letters, index);
         wire.lawful();
         give_wire(&self.table.shared, &mut place.seat, wire);
         copied

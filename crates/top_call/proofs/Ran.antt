@@ -393,8 +393,8 @@ module _ {A W : Type 0} (law : AppLaw A) (saving : Saving W) (scenario : Scenari
 
 -- ---- where actors played apart, and the run was cut short
 
-module _ {A W : Type 0} (law : AppLaw A) (saving : Saving W) (scenario : Scenario) (kinds : List ℕ) (start : Worlding (List ℕ) A) (stables stables_after : List W)
-    (begins : StartsAs scenario.setup start) (holds : Holds law byte_bodies start kinds) (pairs : PairsStand saving stables start.controllers) (left : Played (List ℕ) A)
+module _ {A G W : Type 0} (law : AppLaw A) (saving : Saving W) (scenario : Scenario) (kinds : List ℕ) (start : Worlding (List ℕ) A) (stables stables_after : List W)
+    (begins : StartsAs scenario.setup start) (holds : Holds law byte_bodies start kinds) (pairs : PairsStand saving stables start.controllers) (left : Played (List ℕ) A G)
     (l : IsLeftLegal law saving byte_bodies scenario.setup kinds start.controllers stables stables_after left) where
   abbrev LeftResults : List (List SaveResult)
   LeftResults = results_in left.controllers.items
@@ -435,7 +435,7 @@ module _ {A W : Type 0} (law : AppLaw A) (saving : Saving W) (scenario : Scenari
 
 module _ {A W : Type 0} (law : AppLaw A) (saving : Saving W) (scenario : Scenario) (kinds : List ℕ) (start : Worlding (List ℕ) A) (stables stables_after : List W)
     (begins : StartsAs scenario.setup start) (holds : Holds law byte_bodies start kinds) (pairs : PairsStand saving stables start.controllers) (taken : List Turn) (same : taken ≡ scenario.steps) where
-  pub ends_halted : {X : Type 0} (left : Played (List ℕ) A) (stop : Stop) (ended : Result Ending X) → HaltsAs law saving byte_bodies taken kinds start stables stables_after left stop →
+  pub ends_halted : {G X : Type 0} (left : Played (List ℕ) A G) (stop : Stop) (ended : Result Ending X) → HaltsAs law saving byte_bodies taken kinds start stables stables_after left stop →
       IfOk ended (λ e. StopsAs stop e) → IfOk ended (λ e. EndsRun Apart kinds (StablesTell saving stables stables_after) told_as.Report scenario e)
   ends_halted left stop (Err x) halts is = tt
   ends_halted left OutOfMemory (Ok e) halts never = absurd never

@@ -3,7 +3,7 @@ ghost use Rattle.journal.specs.declared.journal.Actor.TheVariants as actor;
 ghost use Rattle.shared_wire.specs.Places.{fresh, IsSamePlace};
 
 use crate::journals::kind_of;
-use journal::{Actor, JournalEntry, Letter, Letters, Local, Wire};
+use journal::{Actor, Head, Local, Mailbag, Wire};
 use of_types::Octets;
 use shared_wire::{Board, Place};
 use std::alloc::{AllocError, Global};
@@ -46,17 +46,19 @@ fn close_two(
 const HELLO: &[u8] = b"hello";
 
 /// A letter that says so.
-fn hello(alloc: Global, to: Actor) -> Result<Letters<Octets>, AllocError> {
-    let body = Octets::from_slice(alloc, HELLO)?;
-    Ok(Letters::one(Letter { to, body }))
+fn hello(alloc: Global, to: Actor) -> Result<Mailbag<Octets>, AllocError> {
+    let mut post = Mailbag::new(alloc);
+    post.write(to, |body| body.append(HELLO))?;
+    Ok(post)
 }
 
 /// Posts an outbox and draws, and tells whether the packet that was found, if one was, is from an actor and says hello.
 fn reads<R: Wait>(
     rt: &R,
+    alloc: Global,
     board: &Board<Octets>,
     place: &mut Place<Octets>,
-    post: Letters<Octets>,
+    post: &Mailbag<Octets>,
     from: Actor,
     keep: bool,
 ) -> Result<Option<bool>, AllocError>
@@ -65,8 +67,10 @@ fn reads<R: Wait>(
 {
     match board.draw(rt, place, post, 7, keep) {
         Ok(Some(packet)) => {
-            let body = board.copy_body(rt, place, packet)?;
-            Ok(Some(body.as_slice() == HELLO && packet.from.is(from)))
+            let mut letter = Mailbag::new(alloc);
+            board.copy_letter(rt, place, packet, &mut letter)?;
+            let said = letter.len() == 1 && letter.bytes(0) == HELLO;
+            Ok(Some(said && packet.from.is(from)))
         }
         Ok(None) => Ok(None),
         Err(_) => Err(AllocError),
@@ -83,7 +87,7 @@ fn loses_first<R: Wait>(
     requires { place.old.board ≡ board.now.id }
     ensures { IsSamePlace place.old place.new }
 {
-    match board.lose(rt, place, Letters::new(alloc), 3) {
+    match board.lose(rt, place, &Mailbag::new(alloc), 3) {
         Ok(Some(packet)) => packet.id == 0,
         _ => false,
     }
@@ -103,27 +107,13 @@ fn letter_passes<R: Wait>(
     ensures switch { IsSamePlace switch.old switch.new }
 {
     let post = hello(alloc, Actor::Switch(0))?;
-    let nothing = reads(
-        rt,
-        board,
-        switch,
-        Letters::new(alloc),
-        Actor::Controller(0),
-        false,
-    );
-    let posted = board.post(rt, controller, post).is_ok();
-    let read = reads(
-        rt,
-        board,
-        switch,
-        Letters::new(alloc),
-        Actor::Controller(0),
-        true,
-    );
+    let empty = Mailbag::new(alloc);
+    let from = Actor::Controller(0);
+    let nothing = reads(rt, alloc, board, switch, &empty, from, false);
+    let posted = board.post(rt, controller, &post).is_ok();
+    let read = reads(rt, alloc, board, switch, &empty, from, true);
     let lost = loses_first(rt, alloc, board, switch);
-    let ticked = board
-        .local(rt, controller, Letters::new(alloc), Local::Tick)
-        .is_ok();
+    let ticked = board.local(rt, controller, &empty, Local::Tick).is_ok();
     Ok(nothing == Ok(None) && posted && read == Ok(Some(true)) && lost && ticked)
 }
 
@@ -133,7 +123,7 @@ fn are_named(controller: &Place<Octets>, switch: &Place<Octets>) -> bool {
 }
 
 /// Whether the entry at a place is of this kind.
-fn is_of_kind(entries: &[JournalEntry<Octets>], place: usize, kind: u8) -> bool {
+fn is_of_kind(entries: &[Head], place: usize, kind: u8) -> bool {
     match entries.get(place) {
         Some(entry) => kind_of(entry).0 == kind,
         None => false,
@@ -141,7 +131,7 @@ fn is_of_kind(entries: &[JournalEntry<Octets>], place: usize, kind: u8) -> bool 
 }
 
 /// Whether these are entries of these kinds.
-fn are_of_kinds(entries: &[JournalEntry<Octets>], kinds: &[u8]) -> bool {
+fn are_of_kinds(entries: &[Head], kinds: &[u8]) -> bool {
     for place in 0..kinds.len() {
         if !is_of_kind(entries, place, kinds[place]) {
             return false;
@@ -152,7 +142,7 @@ fn are_of_kinds(entries: &[JournalEntry<Octets>], kinds: &[u8]) -> bool {
 
 /// Whether a wire tells of these turns, and has no packet left.
 fn tells_of_all(wire: &Wire<Octets>) -> bool {
-    are_of_kinds(wire.entries(), b"IPDLT") && wire.first().is_none()
+    are_of_kinds(wire.heads(), b"IPDLT") && wire.first().is_none()
 }
 
 #[test]
@@ -197,7 +187,7 @@ fn draws<R: Wait>(
 {
     for _ in 0..TURNS {
         let post = hello(alloc, to)?;
-        if reads(rt, board, place, post, to, false)? == Some(false) {
+        if reads(rt, alloc, board, place, &post, to, false)? == Some(false) {
             return Ok(false);
         }
     }
@@ -239,7 +229,7 @@ fn two_threads_meet(rt: HostRuntime) -> Result<(), AllocError> {
     );
     let met = first.0 && second.0;
     let wire = close_two(board, first.1, second.1, alloc)?;
-    let entries = wire.entries().len();
+    let entries = wire.len();
     drop(wire);
     assert!(rt; met && entries == 8 * TURNS);
     Ok(())

@@ -1,9 +1,12 @@
 //! Bodies on their ways. The answers follow from the rules of reading, by hand; the good ones are vectors.
 
-use of_types::Octets;
+use journal::{Actor, Mailbag};
 use players::{Body, Bytes, seal};
 use run_spec::{Message, Unsealed, Way};
 use std::alloc::{AllocError, Global};
+
+/// To whom the letters of these tests go.
+const SWITCH: Actor = Actor::Switch(0);
 
 /// A ROLE_REQUEST, and the same with another version.
 const ROLE_REQUEST: &[u8] = b"\x04\x18\0\x18\0\0\0\x07\0\0\0\x02\0\0\0\0\0\0\0\0\0\0\0\x01";
@@ -55,8 +58,9 @@ fn is_said(
 ) -> Result<bool, AllocError> {
     match unsealed {
         Unsealed::Message(message) => {
-            let bytes = seal::<Bytes>(alloc, message)?;
-            Ok(fault.is_none() && bytes.as_slice() == expected)
+            let mut sealed = Mailbag::<Bytes>::new(alloc);
+            seal(&mut sealed, SWITCH, message)?;
+            Ok(fault.is_none() && sealed.len() == 1 && sealed.bytes(0) == expected)
         }
         Unsealed::Malformed {
             kind,
@@ -75,9 +79,13 @@ fn says(
     fault: Fault,
     expected: &[u8],
 ) -> Result<bool, AllocError> {
-    let body = Octets::from_slice(alloc, bytes)?;
-    let unsealed = body.unseal(alloc, way);
-    drop(body);
+    let mut sealed = Mailbag::new(alloc);
+    sealed.write(SWITCH, |body| body.append(bytes))?;
+    if sealed.len() != 1 {
+        return Ok(false);
+    }
+    let unsealed = Bytes::unseal(alloc, &sealed, 0, way);
+    drop(sealed);
     let unsealed = unsealed?;
     let said = is_said(alloc, &unsealed, fault, expected);
     drop(unsealed);

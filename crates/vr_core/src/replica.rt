@@ -61,21 +61,9 @@ impl Replica {
         Ok((Replica { state }, out))
     }
 
-    /// The step of an input: what is to be saved and then sent.
+    /// The step of an input. What is to be saved and then sent takes the place of what stood there.
     #[inline(always)]
-    pub fn step(&mut self, input: &VrInput) -> Result<VrOut, AllocError>
-        requires { IsValidState self.old }
-        ensures step { IfOk result (λ out. Stepped (vr_step self.old input.now) self.new out) }
-        ensures valid { OnOk result (IsValidState self.new) }
-    {
-        let mut out = VrOut::new(self.state.log.allocator());
-        self.step_into(input, &mut out)?;
-        Ok(out)
-    }
-
-    /// The same, where what is to be saved and then sent takes the place of what stood there.
-    #[inline(always)]
-    pub fn step_into(&mut self, input: &VrInput, out: &mut VrOut) -> Result<(), AllocError>
+    pub fn step(&mut self, input: &VrInput, out: &mut VrOut) -> Result<(), AllocError>
         requires { IsValidState self.old }
         ensures step { OnOk result (Stepped (vr_step self.old input.now) self.new out.new) }
         ensures valid { OnOk result (IsValidState self.new) }
@@ -86,21 +74,10 @@ impl Replica {
     }
 
     /// The primary proposes an entry. The first refusal that holds is the answer: the member is not normal or
-    /// not the primary of its view; then the limits of the log. A refusal changes nothing.
-    pub fn propose(&mut self, entry: Entry) -> Result<VrOut, ProposeFault>
-        requires valid { IsValidState self.old }
-        requires follows { may_follow self.old.log entry ≡ true }
-        ensures step { ProposesTo self.old entry result self.new }
-        ensures valid { OnOk result (IsValidState self.new) }
-    {
-        let mut out = VrOut::new(self.state.log.allocator());
-        self.propose_into(entry, &mut out)?;
-        Ok(out)
-    }
-
-    /// The same, where what is to be saved and then sent takes the place of what stood there.
+    /// not the primary of its view; then the limits of the log. A refusal changes nothing. What is to be saved
+    /// and then sent takes the place of what stood there.
     #[inline(always)]
-    pub fn propose_into(&mut self, entry: Entry, out: &mut VrOut) -> Result<(), ProposeFault>
+    pub fn propose(&mut self, entry: Entry, out: &mut VrOut) -> Result<(), ProposeFault>
         requires valid { IsValidState self.old }
         requires follows { may_follow self.old.log entry ≡ true }
         ensures step { ProposesTo self.old entry (answered out.new result) self.new }

@@ -14,12 +14,12 @@ receivers_of (receivers.One to) = to ∷ []
 receivers_of (receivers.Others me controllers) = others_below me controllers
 
 -- a letter to each receiver of a mail
-abbrev pub letters_of : Mail → List VrLetter
-letters_of mail = map (λ to. record { to = to; message = mail.message }) (receivers_of mail.to)
+abbrev pub mail_letters : Mail → List VrLetter
+mail_letters mail = map (λ to. record { to = to; message = mail.message }) (receivers_of mail.to)
 
 -- those of each, in order
 abbrev pub letters_in : List Mail → List VrLetter
-letters_in mails = flat_map letters_of mails
+letters_in mails = flat_map mail_letters mails
 
 -- the mails that are kept in place or in memory, in order
 abbrev pub mails_kept : Kept → List Mail

@@ -1,6 +1,6 @@
 //! What a step sends.
 ghost use Rattle.std.specs.Prelude.{◌≡◌, ◌++◌, [], if◌then◌else◌, is_ok, true};
-ghost use Rattle.vr_log.specs.Letters.{letters_in, letters_of};
+ghost use Rattle.vr_log.specs.Letters.{letters_in, mail_letters};
 
 use crate::message::VrMessage;
 use std::alloc::{AllocError, AllocFailed, Global};
@@ -65,7 +65,7 @@ impl VrLetters {
     /// Appends the letters of a mail, ascending. An `Err` changes nothing.
     #[inline(always)]
     pub fn push(&mut self, mail: Mail) -> Result<(), AllocFailed<Mail>>
-        ensures { self.new ≡ (if is_ok result then self.old ++ letters_of mail else self.old) }
+        ensures { self.new ≡ (if is_ok result then self.old ++ mail_letters mail else self.old) }
     {
         if self.is_empty() {
             self.mails = Kept::One(mail);
@@ -78,7 +78,7 @@ impl VrLetters {
     /// The same, where there are mails.
     #[inline(never)]
     fn push_behind(&mut self, mail: Mail) -> Result<(), AllocFailed<Mail>>
-        ensures { self.new ≡ (if is_ok result then self.old ++ letters_of mail else self.old) }
+        ensures { self.new ≡ (if is_ok result then self.old ++ mail_letters mail else self.old) }
     {
         match replace(&mut self.mails, Kept::Nothing) {
             Kept::Nothing => {

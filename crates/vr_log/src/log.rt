@@ -1,5 +1,5 @@
 //! A log in which each entry may follow those before it.
-ghost use Rattle.std.specs.Prelude.{◌≡◌, ◌++◌, ◌∷◌, [], ◌≤◌, length, take, drop, true, ◌==◌, if◌then◌else◌, IfOk, OnOk, OnErr};
+ghost use Rattle.std.specs.Prelude.{◌≡◌, ◌++◌, ◌∷◌, [], ◌<◌, ◌≤◌, length, take, drop, true, ◌==◌, if◌then◌else◌, vec_len, vec_capacity, IfOk, OnOk, OnErr};
 ghost use Rattle.vr_log.specs.Log.{log_entries, log_size, is_past_limits, may_follow, next_place, received, processed, fits, follows, is_log, IsLog, FrontsAreLogs, full_at, Pushes};
 ghost use Rattle.vr_log.specs.Tally.{IsTally};
 
@@ -60,6 +60,17 @@ fn tally_of(alloc: Global, entries: &[Entry]) -> Result<Tally, AllocError>
         tally.add(entry)?;
     }
     Ok(tally)
+}
+
+/// Makes memory for one more entry. The first makes it for all that a log can have, so that none is moved.
+fn reserve_one(entries: &mut Vec<Entry>) -> Result<(), AllocError>
+    ensures same { entries.new.items ≡ entries.old.items }
+    ensures room { OnOk result (vec_len entries.new < vec_capacity entries.new) }
+{
+    if entries.is_empty() {
+        entries.reserve(LOG_ENTRIES as usize)?;
+    }
+    entries.reserve(1)
 }
 
 impl Log {
@@ -170,7 +181,7 @@ impl Log {
         ensures ok { OnOk result (self.new ≡ self.old ++ entry ∷ []) }
         ensures err { OnErr result (self.new ≡ self.old) }
     {
-        self.entries.reserve(1)?;
+        reserve_one(&mut self.entries)?;
         self.tally.add(&entry)?;
         self.entries.push_reserved(entry);
         Ok(())

@@ -3,6 +3,7 @@ pub mod Shelves
 pub mod Counting
 pub mod Places
 pub mod Finding
+pub mod Hearing
 pub mod Taking
 pub mod Growing
 pub mod Standing

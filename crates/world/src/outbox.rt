@@ -1,13 +1,13 @@
 //! What an actor has still to post.
-ghost use Rattle.std.specs.Prelude.{◌≡◌, true, IfOk};
+ghost use Rattle.std.specs.Prelude.{◌≡◌, ◌++◌, true, IfOk, OnOk};
 ghost use Rattle.world.specs.Debts.{has_none, sealed_outbox};
 
 use app_core::App;
 use group_controller::{Controller, Mails};
-use journal::{Actor, Letters, Said};
+use journal::{Actor, Mailbag, Said};
 use of_switch::{Switch, SwitchSays};
 use players::{Body, Player};
-use std::alloc::{AllocError, Global};
+use std::alloc::AllocError;
 
 /// The outbox of the newest input, as its actor said it, as long as it is not posted. It is sealed as it is posted, so that want
 /// of memory loses none of it.
@@ -35,22 +35,22 @@ impl Outbox {
     }
 }
 
-/// Whose an outbox is, and its letters sealed.
-pub fn sealed_outbox<A: App, B: Body>(
-    alloc: Global,
+/// Adds the letters of an outbox, sealed, and tells whose they are.
+pub fn seal_outbox<A: App, B: Body>(
     outbox: &Outbox,
-) -> Result<(Actor, Letters<B>), AllocError>
-    ensures actor { IfOk result (λ post. post.0 ≡ (sealed_outbox B.sealing outbox.now).actor) }
-    ensures letters { IfOk result (λ post. post.1 ≡ (sealed_outbox B.sealing outbox.now).letters) }
+    bag: &mut Mailbag<B>,
+) -> Result<Actor, AllocError>
+    ensures actor { IfOk result (λ actor. actor ≡ (sealed_outbox B.sealing outbox.now).actor) }
+    ensures letters { OnOk result (bag.new ≡ bag.old ++ (sealed_outbox B.sealing outbox.now).letters) }
 {
     match outbox {
         Outbox::Controller { number, letters } => {
-            let letters = Controller::<A>::seal::<B>(alloc, letters)?;
-            Ok((Actor::Controller(*number), letters))
+            Controller::<A>::seal::<B>(letters, bag)?;
+            Ok(Actor::Controller(*number))
         }
         Outbox::Switch { number, letters } => {
-            let letters = Switch::seal::<B>(alloc, letters)?;
-            Ok((Actor::Switch(*number), letters))
+            Switch::seal::<B>(letters, bag)?;
+            Ok(Actor::Switch(*number))
         }
     }
 }

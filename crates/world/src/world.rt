@@ -2,6 +2,7 @@
 ghost use Rattle.std.specs.Prelude.{◌≡◌, ◌<◌, ◌++◌, ◌∷◌, [], ℕ, List, Some, None, false, length, map, slice_get, OnOk, OnErr, IfOk, IfErr, IfSome, IsSome};
 ghost use Rattle.of_types.specs.Setups.{IsSetup};
 ghost use Rattle.journal.specs.Actors.{IsActor};
+ghost use Rattle.journal.specs.Entries.{head_of};
 ghost use Rattle.journal.specs.Orderly.{IsOrderly};
 ghost use Rattle.journal.specs.Places.{IsFound, packet_at};
 ghost use Rattle.journal.specs.Pool.{past, pick, pool};
@@ -20,10 +21,10 @@ ghost use Rattle.world.specs.Actors.{ControllerOwes, ControllerRefused, IsServed
 use crate::actors::{
     controller_takes, controllers_of, fits_types, switch_takes, switches_of, takes_part,
 };
-use crate::outbox::{Outbox, sealed_outbox};
+use crate::outbox::{Outbox, seal_outbox};
 use app_core::App;
 use group_controller::{Controller, ControllerInput};
-use journal::{Actor, Journal, JournalEntry, Local, PacketPlace, Stable, Stop, Turn, Wire};
+use journal::{Actor, Head, Local, Mailbag, PacketPlace, Stable, Stop, Turn, Wire};
 use of_switch::{Switch, SwitchInput};
 use of_types::Setup;
 use players::{Body, Player, heard};
@@ -44,6 +45,8 @@ pub struct World<B: Body, A> {
     switches: Vec<Switch>,
     /// What the actor of the newest input has still to post.
     outbox: Option<Outbox>,
+    /// Room for what is posted, sealed.
+    sealed: Mailbag<B>,
 }
 
 impl<B: Body, A> Model for World<B, A> {
@@ -78,6 +81,7 @@ impl<B: Body, A: App> World<B, A> {
             controllers,
             switches,
             outbox: None,
+            sealed: Mailbag::new(alloc),
         })
     }
 
@@ -100,6 +104,7 @@ impl<B: Body, A: App> World<B, A> {
             controllers,
             switches,
             outbox: None,
+            sealed: Mailbag::new(alloc),
         }
     }
 
@@ -109,11 +114,18 @@ impl<B: Body, A: App> World<B, A> {
         &self.setup
     }
 
-    /// The entries, the oldest first.
-    pub fn journal(&self) -> &[JournalEntry<B>]
-        ensures { result.now ≡ self.now.journal }
+    /// How many entries its journal has.
+    pub fn len(&self) -> usize
+        ensures { result ≡ length self.now.journal }
     {
-        self.wire.entries()
+        self.wire.len()
+    }
+
+    /// The entries without their letters, the oldest first.
+    pub fn heads(&self) -> &[Head]
+        ensures { result.now ≡ map head_of self.now.journal }
+    {
+        self.wire.heads()
     }
 
     /// Its setup, its journal, and its actors by number. What is owed is let go. It takes no memory.
@@ -130,8 +142,10 @@ impl<B: Body, A: App> World<B, A> {
             controllers,
             switches,
             outbox,
+            sealed,
         } = self;
         drop(outbox);
+        drop(sealed);
         (setup, wire, controllers, switches)
     }
 
@@ -222,19 +236,12 @@ impl<B: Body, A: App> World<B, A> {
             self.outbox = None;
             return Ok(());
         }
-        let (actor, letters) = sealed_outbox::<A, B>(self.alloc, outbox)?;
-        match self.wire.post(actor, letters) {
-            Ok(()) => {
-                self.wire.lawful();
-                self.outbox = None;
-                Ok(())
-            }
-            Err(refused) => {
-                let cause = refused.cause;
-                drop(refused);
-                Err(cause)
-            }
-        }
+        self.sealed.clear();
+        let actor = seal_outbox::<A, B>(outbox, &mut self.sealed)?;
+        self.wire.post(actor, &self.sealed)?;
+        self.wire.lawful();
+        self.outbox = None;
+        Ok(())
     }
 
     /// The packet of a choice, if one waits for the actor. It goes on waiting.
@@ -250,7 +257,8 @@ impl<B: Body, A: App> World<B, A> {
         ensures { IfSome (packet_at place self.now.journal) (λ packet. IfOk result
             (λ input. input ≡ P.hears place.from (B.sealing.spelled (way_of place.from place.to) packet.body))) }
     {
-        heard::<P, B>(self.alloc, place.from, place.to, self.wire.body(place))
+        let (letters, index) = self.wire.letter(place);
+        heard::<P, B>(self.alloc, place.from, place.to, letters, index)
     }
 
     /// The entry of a step is written, with room for that of a refusal.
@@ -261,6 +269,18 @@ impl<B: Body, A: App> World<B, A> {
         ensures wants { OnErr result (self.new ≡ self.old) }
     {
         let entered = self.wire.take(turn);
+        self.wire.lawful();
+        entered
+    }
+
+    /// The entry of a loss is written.
+    #[inline(always)]
+    fn enter_loss(&mut self, actor: Actor, choice: u64) -> Result<(), AllocError>
+        ensures enters { OnOk result (self.new ≡ record self.old { journal = taken (turn.Lose actor choice) self.old.journal }) }
+        ensures orderly { IsOrderly B.sealing.size (past self.new.journal) }
+        ensures wants { OnErr result (self.new ≡ self.old) }
+    {
+        let entered = self.wire.take_loss(actor, choice);
         self.wire.lawful();
         entered
     }
@@ -425,10 +445,7 @@ impl<B: Body, A: App> World<B, A> {
                 choice,
                 keep,
             } => self.draw(stables, *actor, *choice, *keep),
-            Turn::Lose { actor, choice } => self.enter(Turn::Lose {
-                actor: *actor,
-                choice: *choice,
-            }),
+            Turn::Lose { actor, choice } => self.enter_loss(*actor, *choice),
             Turn::Local { actor, input } => self.local(stables, *actor, input),
         }
     }

@@ -1,7 +1,9 @@
 -- What a report tells of a run.
-use Rattle.std.specs.Prelude.{◌≡◌, ℕ, List, [], length, map, drop, slice_get, Some, None}
+use Rattle.std.specs.Prelude.{◌≡◌, ℕ, Bool, true, false, List, [], length, map, drop, count_by, slice_get, Some, None}
 use Rattle.std.specs.List.{range_with_len}
 use Rattle.of_types.specs.declared.message.Row.{Row}
+use Rattle.journal.specs.declared.entries.Head.{Head}
+use Rattle.journal.specs.declared.entries.Head.TheVariants as head
 use Rattle.journal.specs.declared.journal.JournalEntry.{JournalEntry}
 use Rattle.journal.specs.declared.journal.SaveResult.{SaveResult}
 use Rattle.journal.specs.Pool.{past}
@@ -15,6 +17,16 @@ use Rattle.world.specs.World.{Worlding}
 use Rattle.report.specs.declared.record.Record.{Record}
 use Rattle.report.specs.declared.record.RowRecord.{RowRecord}
 use Rattle.report.specs.declared.record.SwitchRecord.{SwitchRecord}
+
+-- an entry without its letters is a turn of a closing
+abbrev pub is_turn_head : Head → Bool
+is_turn_head (head.Draw actor id keep) = true
+is_turn_head (head.Local actor input) = true
+is_turn_head _ = false
+
+-- how many are
+abbrev pub head_turns : List Head → ℕ
+head_turns heads = count_by is_turn_head heads
 
 -- a row without its cookie
 abbrev pub shown_row : Row → RowRecord

@@ -1,10 +1,10 @@
 //! The record of a run: what a report tells of a world.
 #![tactic(auto)]
 
-ghost use Rattle.std.specs.Prelude.{◌≡◌, ◌<◌, ◌≤◌, length, IfOk};
-ghost use Rattle.report.specs.Sums.{sums_in};
+ghost use Rattle.std.specs.Prelude.{◌≡◌, ◌<◌, ◌≤◌, drop, length, IfOk};
 ghost use Rattle.run_spec.specs.Closing.{count_turns};
-ghost use Rattle.world_record.specs.Shows.{bare_record, told_by};
+ghost use Rattle.report.specs.Sums.{sums_in};
+ghost use Rattle.world_record.specs.Shows.{bare_record, head_turns, told_by};
 
 mod committed;
 mod told;
@@ -13,7 +13,7 @@ use crate::committed::{committed_log, count_committed};
 use crate::told::{told_all, told_counts};
 use app_core::App;
 use group_controller::Controller;
-use journal::JournalEntry;
+use journal::Head;
 use of_switch::Switch;
 use of_types::Items;
 use players::Bytes;
@@ -22,17 +22,22 @@ use std::alloc::{AllocError, Global};
 use world::World;
 
 /// How many turns entries are: suspicions and draws.
-fn count_turns(entries: &[JournalEntry<Bytes>]) -> u64
-    ensures { result ≡ count_turns entries.now }
+fn turns_in(heads: &[Head]) -> u64
+    ensures { result ≡ head_turns heads.now }
 {
     let mut turns = 0;
-    for entry in entries {
-        turns += u64::from(matches!(
-            entry,
-            JournalEntry::Draw { .. } | JournalEntry::Local { .. }
-        ));
+    for head in heads {
+        turns += u64::from(matches!(head, Head::Draw { .. } | Head::Local { .. }));
     }
     turns
+}
+
+/// How many turns a world's entries are behind those of a script.
+fn closing_turns<A: App>(world: &World<Bytes, A>, script: usize) -> u64
+    requires { script ≤ length world.now.journal }
+    ensures { result ≡ count_turns (drop script world.now.journal) }
+{
+    turns_in(&world.heads()[script..])
 }
 
 /// What the last line of a world's report sums up, by the log of a primary. So many steps were its script's, which made so many of
@@ -50,7 +55,7 @@ pub fn sums_of<A: App>(
     let (events, executed, rows) = told_counts(world)?;
     Ok(Sums {
         script: steps as u64,
-        closing: count_turns(&world.journal()[script..]),
+        closing: closing_turns(world, script),
         events,
         entries: count_committed(world.controller(primary)),
         executed,
@@ -77,7 +82,7 @@ pub fn bare_record<A: App>(
         log: committed_log(alloc, world.controller(primary))?,
         switches: told_all(alloc, world)?,
         script: steps as u64,
-        closing: count_turns(&world.journal()[script..]),
+        closing: closing_turns(world, script),
     })
 }
 
@@ -104,7 +109,7 @@ pub fn record_of<A: App>(
     let mut told = bare_record(alloc, &world, primary, steps, script)?;
     let (setup, wire, controllers, switches) = world.into_parts();
     drop(setup);
-    told.journal = wire.into_journal();
+    told.journal = wire.into_journal()?;
     let actors = Actors {
         controllers,
         switches,

@@ -2,8 +2,8 @@ use Rattle.std.proofs.Common.{◌≡◌, ◌≤◌, ◌+◌, ◌++◌, length, m
 use Rattle.std.specs.Vec.{vec_len, vec_capacity}
 use Rattle.journal.proofs.order.push_each.Given as goal
 
-abbrev pub invariant-loop-letter : goal.invariant-loop-letter
-invariant-loop-letter g l = record {
-  items : l.slots.items ≡ l.fn.slots.items ++ map (λ letter. Some letter.to) (take l.letter-index l.letters);
-  room : vec_len l.slots + length l.letters ≤ vec_capacity l.slots + l.letter-index;
+abbrev pub invariant-loop-index : goal.invariant-loop-index
+invariant-loop-index g l = record {
+  items : l.slots.items ≡ l.fn.slots.items ++ map (λ letter. Some letter.to) (take l.index l.letters);
+  room : vec_len l.slots + l.count ≤ vec_capacity l.slots + l.index;
 }

@@ -10,9 +10,3 @@ returns-clause-spelled c = λ v short. said_spelled c.args.xid c.args.said.now v
 
 pub returns-clause-size : goal.returns-clause-size
 returns-clause-size c = message_size c.args.xid (plain.Experimenter (canonical_extension c.args.said.now)) ∙ extension_has_size c.args.said.now
-
-pub returns-in_err-bytes-clause-spelled : goal.returns-in_err-bytes-clause-spelled
-returns-in_err-bytes-clause-spelled c = λ v short. said_spelled c.args.xid c.args.said.now v c.extension_fits.ensures short c.u32_fits.ensures
-
-pub returns-in_err-bytes-clause-size : goal.returns-in_err-bytes-clause-size
-returns-in_err-bytes-clause-size c = message_size c.args.xid (plain.Experimenter (canonical_extension c.args.said.now)) ∙ extension_has_size c.args.said.now

@@ -48,7 +48,7 @@ returns-in-Ok-clause-played g c = λ kinds holds.
     let goes_on = subst (λ (l : List _). Keeps law saving sealing now l c.run-ended.new.world c.run-ended.new.stables) c.deref_mut.ensures.value c.in-Ok.ensures.keeps in
     played law saving sealing c.args.steps.now first c.args.stables.now.items now before c.run-ended.new.world c.run-ended.new.stables c.in_ok-world.ensures.keeps Apart kinds holds
     (followed law saving sealing c.args.steps.now first c.args.stables.now.items now before c.in_ok-world.ensures.keeps kinds holds (c.in_ok-world.ensures.follows kinds holds)) goes_on
-    (length c.journal-script.result.now) (ap (λ l. length l) c.journal-script.ensures) c.in-Ok.closed
+    c.len-script.result c.len-script.ensures c.in-Ok.closed
     (c.in-Ok.ensures.closes kinds (c.in_ok-world.ensures.keeps.holds kinds holds))
 
 pub returns-in-Err-clause-halts : goal.returns-in-Err-clause-halts

@@ -30,5 +30,5 @@ returns-clause-keeps g c = keeps_then g.A.App.law g.W.Stable.saving g.B.Body.sea
 pub returns-clause-played : goal.returns-clause-played
 returns-clause-played g c = λ kinds holds. played g.A.App.law g.W.Stable.saving g.B.Body.sealing c.args.steps.now c.args.world.now c.args.stables.now c.do_steps.new.world c.do_steps.new.stables c.run.new.world c.run.new.stables
     c.in_ok-do_steps.ensures.keeps In_order kinds holds (c.in_ok-do_steps.ensures.follows kinds holds) c.in_ok-closed.ensures.keeps
-    (length c.journal-script.result.now) (ap (λ l. length l) c.journal-script.ensures) c.in_ok-closed.closed
+    c.len-script.result c.len-script.ensures c.in_ok-closed.closed
     (c.in_ok-closed.ensures.closes kinds (c.in_ok-do_steps.ensures.keeps.holds kinds holds))

@@ -15,8 +15,8 @@ play_together-played-requires-clause-members g c = λ κs bounds.
     let id = c.in-Ok.ready.board.id in
     let places_are = c.in-Ok.ensures.places ∙ ap (λ n. map (fresh id) (actors_up_to n c.len-2.result)) (c.len.ensures ∙ c.args.controllers.ok.0)
     ∙ ap (λ n. map (fresh id) (actors_up_to (length c.args.controllers.items) n)) (c.len-2.ensures ∙ c.args.switches.ok.0) in
-    subst (λ p. All (MayBegin (ServedPlays g.A.App.law g.W.Stable.saving g.B.Body.sealing) id c.args.steps.now) (seated p (served c.args.controllers.items c.args.stables.now.items))) (sym places_are)
-    (together.members_ready g.A.App.law g.W.Stable.saving g.B.Body.sealing c.args.setup.now kinds c.args.steps.now id c.args.controllers.items c.args.switches.items c.args.stables.now.items c.requires.starts.1)
+    together.members_ready_at _ g.A.App.law g.W.Stable.saving g.B.Body.sealing c.args.setup.now kinds c.args.steps.now id c.args.controllers.items c.args.switches.items c.args.stables.now.items c.requires.starts.1
+    c.in-Ok.ready.places.items places_are
 
 pub play_together-played-requires-clause-others : goal.play_together-played-requires-clause-others
 play_together-played-requires-clause-others g c = λ κs bounds.
@@ -24,8 +24,8 @@ play_together-played-requires-clause-others g c = λ κs bounds.
     let id = c.in-Ok.ready.board.id in
     let places_are = c.in-Ok.ensures.places ∙ ap (λ n. map (fresh id) (actors_up_to n c.len-2.result)) (c.len.ensures ∙ c.args.controllers.ok.0)
     ∙ ap (λ n. map (fresh id) (actors_up_to (length c.args.controllers.items) n)) (c.len-2.ensures ∙ c.args.switches.ok.0) in
-    subst (λ p. All (MayBegin (SwitchPlays g.B.Body.sealing) id c.args.steps.now) (seated (drop (length c.args.controllers.items) p) c.args.switches.items)) (sym places_are)
-    (together.others_ready g.A.App.law g.W.Stable.saving g.B.Body.sealing c.args.setup.now kinds c.args.steps.now id c.args.controllers.items c.args.switches.items c.args.stables.now.items c.requires.starts.1)
+    together.others_ready_at _ g.A.App.law g.W.Stable.saving g.B.Body.sealing c.args.setup.now kinds c.args.steps.now id c.args.controllers.items c.args.switches.items c.args.stables.now.items c.requires.starts.1
+    c.in-Ok.ready.places.items places_are
 
 pub returns-in-None-clause-played : goal.returns-in-None-clause-played
 returns-in-None-clause-played g c = λ kinds starts.
@@ -35,7 +35,7 @@ returns-in-None-clause-played g c = λ kinds starts.
     let sealing = g.B.Body.sealing in
     let places_are = c.in-Ok.ensures.places ∙ ap (λ n. map (fresh id) (actors_up_to n c.len-2.result)) (c.len.ensures ∙ c.args.controllers.ok.0)
     ∙ ap (λ n. map (fresh id) (actors_up_to (length c.args.controllers.items) n)) (c.len-2.ensures ∙ c.args.switches.ok.0) in
-    together.none_stops law saving sealing c.args.setup.now kinds c.args.steps.now id c.args.controllers.items c.args.switches.items c.args.stables.now.items starts
+    together.none_stops _ law saving sealing c.args.setup.now kinds c.args.steps.now id c.args.controllers.items c.args.switches.items c.args.stables.now.items starts
     c.play_together-played.new.stables.items c.play_together-played.result.0 c.play_together-played.result.1
     (subst (λ p. HavePlayed law saving sealing c.args.steps.now p c.args.controllers.items c.args.switches.items c.args.stables.now.items c.play_together-played.new.stables.items c.play_together-played.result.0 c.play_together-played.result.1)
     places_are c.play_together-played.ensures) c.in-None.is
@@ -48,7 +48,7 @@ returns-in-Some-clause-halts g c = λ kinds starts.
     let sealing = g.B.Body.sealing in
     let places_are = c.in-Ok.ensures.places ∙ ap (λ n. map (fresh id) (actors_up_to n c.len-2.result)) (c.len.ensures ∙ c.args.controllers.ok.0)
     ∙ ap (λ n. map (fresh id) (actors_up_to (length c.args.controllers.items) n)) (c.len-2.ensures ∙ c.args.switches.ok.0) in
-    together.some_stops law saving sealing c.args.setup.now kinds c.args.steps.now id c.args.controllers.items c.args.switches.items c.args.stables.now.items starts
+    together.some_stops _ law saving sealing c.args.setup.now kinds c.args.steps.now id c.args.controllers.items c.args.switches.items c.args.stables.now.items starts
     c.play_together-played.new.stables.items c.play_together-played.result.0 c.play_together-played.result.1
     (subst (λ p. HavePlayed law saving sealing c.args.steps.now p c.args.controllers.items c.args.switches.items c.args.stables.now.items c.play_together-played.new.stables.items c.play_together-played.result.0 c.play_together-played.result.1)
     places_are c.play_together-played.ensures) c.in-Some.stop c.in-Some.is

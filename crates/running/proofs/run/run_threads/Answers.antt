@@ -17,7 +17,7 @@ pub run_actors-answer-requires-clause-starts : goal.run_actors-answer-requires-c
 run_actors-answer-requires-clause-starts g c = λ κs bounds.
     let kinds = c.requires.holds.0 in (
       kinds,
-      starts_with g.A.App.law g.W.Stable.saving g.B.Body.sealing c.args.world c.args.stables.now.items c.args.stables.now.items c.args.steps.now
+      starts_with g.A.App.law g.W.Stable.saving c.args.world c.args.stables.now.items c.args.steps.now
           c.into_parts-setup.result.0 c.into_parts-setup.result.2.items c.into_parts-setup.result.3.items c.into_parts-setup.ensures.setup c.into_parts-setup.ensures.controllers c.into_parts-setup.ensures.switches kinds
           (starts g.A.App.law g.W.Stable.saving g.B.Body.sealing c.args.world c.args.stables.now.items kinds c.args.steps.now c.requires.holds.1 c.requires.fresh c.requires.pairs c.requires.named),
     )
@@ -32,7 +32,7 @@ returns-in-Err-clause-halts g c =
     (halts_with law saving sealing c.args.world c.args.stables.now.items c.run_actors-answer.new.stables.items c.args.steps.now
     parts.result.0 parts.result.2.items parts.result.3.items parts.ensures.setup parts.ensures.controllers parts.ensures.switches kinds c.in-Err.halt.played c.in-Err.halt.stop
     (c.in-Err.ensures.halts kinds
-    (starts_with law saving sealing c.args.world c.args.stables.now.items c.args.stables.now.items c.args.steps.now
+    (starts_with law saving c.args.world c.args.stables.now.items c.args.steps.now
     parts.result.0 parts.result.2.items parts.result.3.items parts.ensures.setup parts.ensures.controllers parts.ensures.switches kinds
     (starts law saving sealing c.args.world c.args.stables.now.items kinds c.args.steps.now holds c.requires.fresh c.requires.pairs c.requires.named))))
 
@@ -45,7 +45,7 @@ returns-in-Ok-clause-keeps g c =
     keeps_apart law saving sealing c.args.world c.args.stables.now.items c.run_actors-answer.new.stables.items c.args.steps.now
     parts.result.0 parts.result.2.items parts.result.3.items parts.ensures.setup parts.ensures.controllers parts.ensures.switches c.in-Ok.played c.adopt.result c.adopt.ensures.is c.requires.holds
     (λ kinds holds. c.in-Ok.ensures.played kinds
-    (starts_with law saving sealing c.args.world c.args.stables.now.items c.args.stables.now.items c.args.steps.now
+    (starts_with law saving c.args.world c.args.stables.now.items c.args.steps.now
     parts.result.0 parts.result.2.items parts.result.3.items parts.ensures.setup parts.ensures.controllers parts.ensures.switches kinds
     (starts law saving sealing c.args.world c.args.stables.now.items kinds c.args.steps.now holds c.requires.fresh c.requires.pairs c.requires.named)))
     c.adopt.ensures.holds
@@ -60,6 +60,6 @@ returns-in-Ok-clause-follows g c =
     follows_apart law saving sealing c.args.world c.args.stables.now.items c.run_actors-answer.new.stables.items c.args.steps.now
     parts.result.0 parts.result.2.items parts.result.3.items parts.ensures.setup parts.ensures.controllers parts.ensures.switches c.in-Ok.played c.adopt.result c.adopt.ensures.is kinds
     (c.in-Ok.ensures.played kinds
-    (starts_with law saving sealing c.args.world c.args.stables.now.items c.args.stables.now.items c.args.steps.now
+    (starts_with law saving c.args.world c.args.stables.now.items c.args.steps.now
     parts.result.0 parts.result.2.items parts.result.3.items parts.ensures.setup parts.ensures.controllers parts.ensures.switches kinds
     (starts law saving sealing c.args.world c.args.stables.now.items kinds c.args.steps.now holds c.requires.fresh c.requires.pairs c.requires.named)))

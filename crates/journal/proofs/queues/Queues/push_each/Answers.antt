@@ -1,9 +1,12 @@
-use Rattle.std.proofs.Common.{◌≡◌, ◌+◌, ◌-◌, ◌++◌, length, take, sym, ap, ◌∙◌, arith}
+use Rattle.std.proofs.Common.{◌≡◌, ◌<◌, ◌+◌, ◌-◌, ◌++◌, [], ◌∷◌, length, take, sym, ap, ◌∙◌, arith}
 use Rattle.std.proofs.Math.Seq.{take-append_seam}
 use Rattle.std.proofs.lemmas.List.{length-append}
+use Rattle.std.proofs.lemmas.Option.{get_or_from_slice_get}
+use Rattle.journal.specs.declared.journal.Actor.{Actor}
 use Rattle.journal.specs.declared.place.PacketPlace.{PacketPlace}
 use Rattle.journal.specs.Actors.{same_actor}
 use Rattle.journal.specs.Places.{placed, queue_of, sent_to, letters_to}
+use Rattle.journal.proofs.Lists.{at_index}
 use Rattle.journal.proofs.Placing.{placed_next, length-sent}
 use Rattle.journal.proofs.Rows.{pushed_more}
 use Rattle.journal.proofs.queues.Queues.push_each.Goals as goal
@@ -22,15 +25,19 @@ returns-in-Err-clause-err g c = λ a.
     ∙ take-append_seam start sent
 
 pub loop-letter-preserved : goal.loop-letter-preserved
-loop-letter-preserved g c = record {
-  queues = λ a.
-      let before = placed c.args.entry 0 c.args.first c.args.from (take c.loop-letter.letter c.args.letters.now) in
-      let letter = c.index-letters-letter in
-      let place : PacketPlace =
-      record { id = c.args.first + c.loop-letter.letter; from = c.args.from; to = letter.result.to; entry = c.args.entry; letter = c.loop-letter.letter } in
-      pushed_more (λ place. same_actor place.to a) (queue_of c.args.self.now a) before place (queue_of c.loop-letter.self a) (queue_of c.push.new.self a)
-      (c.loop-letter.invariant.queues a) (c.in_default.ensures.ok a)
-      ∙ ap (λ places. queue_of c.args.self.now a ++ sent_to a places)
-      (sym (placed_next c.args.entry c.args.first c.args.from c.args.letters.now c.loop-letter.letter letter.result c.loop-letter-test.true letter.is));
-  order = c.push.ensures.order ∙ c.loop-letter.invariant.order;
-}
+loop-letter-preserved g c =
+    let letters = c.args.letters.now in
+    let index = c.loop-letter.letter in
+    let within : index < length letters = omega (arith, c.loop-letter-test.true, c.requires.within) in
+    let here = at_index (λ l. c.receiver.result ≡ l.to) letters index within c.receiver.ensures in
+    let place : Actor → PacketPlace = λ to. record { id = c.args.first + index; from = c.args.from; to = to; entry = c.args.entry; letter = index } in
+    let before = placed c.args.entry 0 c.args.first c.args.from (take index letters) in
+    record {
+      queues = λ a.
+          pushed_more (λ place. same_actor place.to a) (queue_of c.args.self.now a) before (place c.receiver.result) (queue_of c.loop-letter.self a) (queue_of c.push.new.self a)
+          (c.loop-letter.invariant.queues a) (c.in_default.ensures.ok a)
+          ∙ ap (λ to. queue_of c.args.self.now a ++ sent_to a (before ++ place to ∷ [])) here.2
+          ∙ ap (λ places. queue_of c.args.self.now a ++ sent_to a places)
+          (sym (placed_next c.args.entry c.args.first c.args.from letters index here.0 within (sym (get_or_from_slice_get letters index here.0 here.0 here.1))));
+      order = c.push.ensures.order ∙ c.loop-letter.invariant.order;
+    }

@@ -2,14 +2,14 @@ use Rattle.std.proofs.Common.{[], ◌∷◌, inl, inr, refl}
 use Rattle.std.specs.Prelude.{None}
 use Rattle.journal.specs.declared.journal.JournalEntry.TheVariants.{Refused}
 use Rattle.run_spec.specs.States.{controller_message, sealed_letters}
-use Rattle.running.proofs.Playing.{if_ok, on_err_then, served_takes, served_wants}
+use Rattle.running.proofs.Playing.{on_ok_then, on_err_then, served_takes, served_wants}
 use Rattle.running.proofs.seated.ServedSeated.take.Goals as goal
 
 pub returns-clause-takes : goal.returns-clause-takes
 returns-clause-takes g c = λ setup kinds a start own e found hears h.
-    if_ok c.sealed_turn.result _ _ (λ sealed said.
+    on_ok_then c.sealed_turn.result _ _ (λ said.
     served_takes g.A.App.law g.W.Stable.saving g.B.Body.sealing setup kinds a start own e found c.args.input c.args.self.now
-    (record { controller = c.sealed_turn.new.player; stable = c.sealed_turn.new.beside }) said.0 sealed hears h said.1 (record { sealed = said.2; typed = said.3 })) c.sealed_turn.ensures.turned
+    (record { controller = c.sealed_turn.new.player; stable = c.sealed_turn.new.beside }) said.0 c.sealed_turn.new.bag hears h said.1 (record { sealed = said.2; typed = said.3 })) c.sealed_turn.ensures.turned
 
 pub returns-clause-wants : goal.returns-clause-wants
 returns-clause-wants g c = λ setup kinds a start own e found hears h.

@@ -1,16 +1,16 @@
 use Rattle.std.proofs.Common.{[], ◌∷◌, inl, inr, refl, sym, subst}
 use Rattle.run_spec.specs.States.{sealed_letters, switch_message}
 use Rattle.running.specs.Playing.{SwitchPlays, scene_of}
-use Rattle.running.proofs.Playing.{if_ok, on_err_then}
+use Rattle.running.proofs.Playing.{on_ok_then, on_err_then}
 use Rattle.running.proofs.Switching.{switch_takes}
 use Rattle.running.proofs.seated.SwitchSeated.take.Goals as goal
 
 pub returns-clause-takes : goal.returns-clause-takes
 returns-clause-takes g c = λ setup kinds a start own e found hears h.
-    if_ok c.sealed_turn.result _ _ (λ sealed said. record {
+    on_ok_then c.sealed_turn.result _ _ (λ said. record {
       number = h.number;
       is = h.is;
-      stands = switch_takes (scene_of g.B.Body.sealing setup kinds) h.number own c.args.self.now e found c.args.input c.sealed_turn.new.player said.0 sealed
+      stands = switch_takes (scene_of g.B.Body.sealing setup kinds) h.number own c.args.self.now e found c.args.input c.sealed_turn.new.player said.0 c.sealed_turn.new.bag
           hears h.stands said.1.state said.1.says (record { sealed = said.2; typed = said.3 });
     }) c.sealed_turn.ensures.turned
 

@@ -7,7 +7,7 @@ pub give_wire-requires-clause-grown : goal.give_wire-requires-clause-grown
 give_wire-requires-clause-grown g c =
     let size = g.B.Weight.size in
     let me = c.take_wire-wire.ensures.me in
-    let more = grows size c.place.inside.actor _ c.post-answer.new.self c.args.post _ c.post-answer.result (by_posting size c.place.inside.actor c.args.post _) c.post-answer.ensures.ok c.post-answer.ensures.err in
+    let more = grows size c.place.inside.actor _ c.post-answer.new.self c.args.post.now _ c.post-answer.result (by_posting size c.place.inside.actor c.args.post.now _) c.post-answer.ensures.ok c.post-answer.ensures.err in
     record {
       about = _;
       taken = _;
@@ -23,10 +23,10 @@ returns-clause-ok g c =
     let size = g.B.Weight.size in
     let free = c.place.invariant.0 in
     let given = gave_back c.place.inside.actor _ c.post-answer.new.self _ c.place.inside.seat.me _ c.give_wire.new.seat.me _ free refl (c.take_wire-wire.ensures.known _ free) c.take_wire-wire.ensures.me c.give_wire.ensures.me in
-    rw (← c.place.view_is) (adds _ _ _ _ _ given c.place.inside.seat.table_id c.give_wire.new.seat.table_id (posting size c.place.inside.actor c.args.post) c.post-answer.result (by_posting size c.place.inside.actor c.args.post _) c.post-answer.ensures.ok)
+    rw (← c.place.view_is) (adds _ _ _ _ _ given c.place.inside.seat.table_id c.give_wire.new.seat.table_id (posting size c.place.inside.actor c.args.post.now) c.post-answer.result (by_posting size c.place.inside.actor c.args.post.now _) c.post-answer.ensures.ok)
 
 pub returns-clause-err : goal.returns-clause-err
 returns-clause-err g c =
     let free = c.place.invariant.0 in
     let given = gave_back c.place.inside.actor _ c.post-answer.new.self _ c.place.inside.seat.me _ c.give_wire.new.seat.me _ free refl (c.take_wire-wire.ensures.known _ free) c.take_wire-wire.ensures.me c.give_wire.ensures.me in
-    rw (← c.place.view_is) (refuses _ _ _ _ _ given g.B.Weight.size c.place.inside.seat.table_id c.give_wire.new.seat.table_id c.args.post c.post-answer.result c.post-answer.ensures.err)
+    rw (← c.place.view_is) (refuses _ _ _ _ _ given g.B.Weight.size c.place.inside.seat.table_id c.give_wire.new.seat.table_id c.args.post.now c.post-answer.result c.post-answer.ensures.err)

@@ -11,10 +11,10 @@ returns-in-Lose-clause-steps g c =
     let law = g.A.App.law in
     let sealing = g.B.Body.sealing in
     let named = subst (λ t. IsActor c.args.self.now.setup (turn_actor t)) c.in-Lose.is c.requires.named in
-    rw c.in-Lose.is (on_ok c.enter.result _ _ (λ is. loss_steps law g.W.Stable.saving sealing g.met.B.Body.faithful c.args.self.now c.args.stables.now c.requires.rests c.requires.holds c.requires.pairs c.in-Lose.actor c.in-Lose.choice named c.enter.new.self is c.enter.ensures.orderly) c.enter.ensures.enters)
+    rw c.in-Lose.is (on_ok c.enter_loss.result _ _ (λ is. loss_steps law g.W.Stable.saving sealing g.met.B.Body.faithful c.args.self.now c.args.stables.now c.requires.rests c.requires.holds c.requires.pairs c.in-Lose.actor c.in-Lose.choice named c.enter_loss.new.self is c.enter_loss.ensures.orderly) c.enter_loss.ensures.enters)
 
 pub returns-in-Lose-clause-stops : goal.returns-in-Lose-clause-stops
 returns-in-Lose-clause-stops g c =
     let law = g.A.App.law in
     let sealing = g.B.Body.sealing in
-    rw c.in-Lose.is (on_err c.enter.result _ _ (λ is. none_taken law g.W.Stable.saving sealing g.met.B.Body.faithful c.args.self.now c.args.stables.now c.requires.rests c.requires.holds c.requires.pairs (turn.Lose c.in-Lose.actor c.in-Lose.choice) c.enter.new.self is) c.enter.ensures.wants)
+    rw c.in-Lose.is (on_err c.enter_loss.result _ _ (λ is. none_taken law g.W.Stable.saving sealing g.met.B.Body.faithful c.args.self.now c.args.stables.now c.requires.rests c.requires.holds c.requires.pairs (turn.Lose c.in-Lose.actor c.in-Lose.choice) c.enter_loss.new.self is) c.enter_loss.ensures.wants)

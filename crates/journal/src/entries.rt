@@ -15,7 +15,7 @@ use std::alloc::{AllocError, Global};
 use std::marker::Model;
 use std::vec::IntoIter;
 
-/// For so many entries the first makes memory.
+/// A journal begins with memory for so many entries, so that a list that has little need not be moved often.
 const FIRST_ENTRIES: usize = 4096;
 
 /// An entry without its letters: a post has only their count, the lost ones too.
@@ -118,11 +118,16 @@ impl<B: Weight> Entries<B> {
         ensures ok { OnOk result (more ≤ self.new.room) }
         ensures grows { self.old.room ≤ self.new.room }
     {
-        if self.heads.is_empty() {
-            self.heads.reserve(FIRST_ENTRIES)?;
-            self.letters.make_room()?;
-        }
         self.heads.reserve(more)
+    }
+
+    /// Makes memory for the first entries, and for their letters.
+    pub fn make_room(&mut self) -> Result<(), AllocError>
+        ensures same { self.new ≡ record self.old { room = self.new.room } }
+        ensures grows { self.old.room ≤ self.new.room }
+    {
+        self.heads.reserve(FIRST_ENTRIES)?;
+        self.letters.make_room()
     }
 
     /// Adds an entry that is no post. There is memory for it.

@@ -138,6 +138,15 @@ impl<B: Weight> Ledger<B> {
         })
     }
 
+    /// Makes memory for the first entries, and for their letters.
+    pub fn make_room(&mut self) -> Result<(), AllocError>
+        requires kept { IsLedger B.size self.old }
+        ensures kept { IsLedger B.size self.new }
+        ensures entries { self.new.entries.items ≡ self.old.entries.items }
+    {
+        self.entries.make_room()
+    }
+
     /// Makes memory for the entry of a step, and for that of a refusal.
     pub fn reserve(&mut self) -> Result<(), AllocError>
         requires kept { IsLedger B.size self.old }

@@ -10,10 +10,10 @@ use std::marker::Model;
 /// A body of so many bytes or more has a list of its own, so that it can be moved.
 const LONG: usize = 512;
 
-/// For so many letters of a journal the first make memory, so that a list that has little need not be moved often.
+/// A journal begins with memory for so many letters.
 const FIRST_LETTERS: usize = 4096;
 
-/// For so many bytes of their bodies the first make memory.
+/// It begins with memory for so many bytes of their bodies.
 const FIRST_BYTES: usize = 262_144;
 
 /// A body: a list of its own, or bytes of the bag.

@@ -77,6 +77,15 @@ impl<B: Weight> Wire<B> {
         }
     }
 
+    /// The empty journal, with memory for its first entries and their letters.
+    pub fn with_room(alloc: Global) -> Result<Wire<B>, AllocError>
+        ensures { IfOk result (λ wire. wire ≡ []) }
+    {
+        let mut ledger = Ledger::new(alloc);
+        ledger.make_room()?;
+        Ok(Wire { ledger })
+    }
+
     /// Each journal is orderly, and within its limits.
     pub fn lawful(&self)
         ensures orderly { IsOrderly B.size (past self.now) }
@@ -147,7 +156,7 @@ impl<B: Weight> Wire<B> {
     }
 
     /// Draws the packet of a choice behind all that was posted, if one waits for the actor. An `Err` changes nothing.
-    #[inline]
+    #[inline(always)]
     pub fn take_draw(&mut self, actor: Actor, choice: u64, keep: bool) -> Result<(), AllocError>
         ensures ok { OnOk result (self.new ≡ self.old ++ entry_of (turn.Draw actor choice keep) (past self.old) ∷ []) }
         ensures err { OnErr result (self.new ≡ self.old) }
@@ -158,7 +167,7 @@ impl<B: Weight> Wire<B> {
     }
 
     /// Loses the packet of a choice behind all that was posted, if one waits for the actor. An `Err` changes nothing.
-    #[inline]
+    #[inline(always)]
     pub fn take_loss(&mut self, actor: Actor, choice: u64) -> Result<(), AllocError>
         ensures ok { OnOk result (self.new ≡ self.old ++ entry_of (turn.Lose actor choice) (past self.old) ∷ []) }
         ensures err { OnErr result (self.new ≡ self.old) }

@@ -77,7 +77,7 @@ impl<B: Body, A: App> World<B, A> {
         Ok(World {
             alloc,
             setup: setup.copy()?,
-            wire: Wire::new(alloc),
+            wire: Wire::with_room(alloc)?,
             controllers,
             switches,
             outbox: None,
@@ -222,6 +222,7 @@ impl<B: Body, A: App> World<B, A> {
     }
 
     /// Posts the outbox, as `post_owed` does.
+    #[inline(always)]
     fn post_outbox(&mut self) -> Result<(), Stop>
         ensures posts { OnOk result (self.new ≡ with_posts B.sealing.size self.old) }
         ensures holds { ForEachKinds (Holds A.law B.sealing self.old) (Holds A.law B.sealing self.new) }

@@ -29,7 +29,6 @@ use Rattle.group_controller.specs.declared.messages.ControllerSays.{ControllerSa
 use Rattle.group_controller.specs.Rules.{controller_work}
 use Rattle.vr_log.specs.declared.entry.Entry.{Entry}
 use Rattle.run_spec.specs.declared.messages.Message.{Message}
-use Rattle.run_spec.specs.declared.messages.Message.TheVariants as message
 use Rattle.run_spec.specs.declared.messages.Unsealed.{Unsealed}
 use Rattle.run_spec.specs.declared.messages.Unsealed.TheVariants as unsealed
 use Rattle.run_spec.specs.declared.messages.Way.{Way}

@@ -1,8 +1,6 @@
 -- Runs over messages are runs over bytes, and the other way round.
 use Rattle.std.proofs.Common.{◌≡◌, ℕ, List, [], ◌∷◌, map, refl, sym, ◌∙◌, ap, subst}
 use Rattle.std.specs.List.{AllByRecursion}
-use Rattle.of_types.specs.declared.message.OfMessage.TheVariants as plain
-use Rattle.of_types.specs.declared.message.Spoken.TheVariants as spoken
 use Rattle.of_types.specs.declared.setup.Setup.{Setup}
 use Rattle.of_types.specs.Setups.{IsSetup}
 use Rattle.journal.specs.declared.journal.Actor.{Actor}

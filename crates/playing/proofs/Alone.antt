@@ -1,6 +1,6 @@
 -- Behind a script whose actors played apart.
 use Rattle.std.proofs.Common.{◌≡◌, ◌≤◌, ◌<◌, ℕ, Bool, true, false, List, [], ◌∷◌, ◌++◌, length, refl, sym, ◌∙◌, ap, subst, arith}
-use Rattle.std.specs.Prelude.{drop, filter, slice_get, take, Option, Some, None, if◌then◌else◌}
+use Rattle.std.specs.Prelude.{drop, filter, take, Option, Some, None}
 use Rattle.std.specs.List.{AllByRecursion}
 use Rattle.std.proofs.Math.Seq.{take-append_seam}
 use Rattle.journal.specs.declared.journal.Actor.{Actor}
@@ -31,7 +31,7 @@ use Rattle.closing.specs.declared.closed.ClosingOutcome.{ClosingOutcome}
 use Rattle.closing.specs.declared.closed.ClosingOutcome.TheVariants as closed
 use Rattle.closing.specs.Closing.{HasMajority, up_in}
 use Rattle.running.specs.declared.run.Played.{Played}
-use Rattle.running.specs.Apart.{FollowsAlone, FollowsApart, In_the_script, IsStepAt, TakesOwn, inputs_of, steps_of}
+use Rattle.running.specs.Apart.{FollowsApart, In_the_script, IsStepAt, TakesOwn, inputs_of, steps_of}
 use Rattle.running.specs.Threads.{HaltsApart}
 use Rattle.playing.specs.Manners.{Apart}
 use Rattle.playing.specs.Played.{HaltsAs, HasFollowed, StepSuspectsUpTo}

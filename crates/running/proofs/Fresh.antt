@@ -1,10 +1,9 @@
 -- The actors of a world as it starts, and what threads keep of it.
 use Rattle.std.proofs.Common.{◌≡◌, ◌≤◌, ◌<◌, ℕ, ◌+◌, zero, suc, List, [], ◌∷◌, length, refl, sym, ◌∙◌, ap, subst, arith}
-use Rattle.std.specs.Prelude.{Some, None, slice_get, map}
+use Rattle.std.specs.Prelude.{Some, slice_get, map}
 use Rattle.std.specs.List.{AllByRecursion, range_with_len}
 use Rattle.std.proofs.lemmas.Option.{slice_get_within}
 use Rattle.journal.specs.declared.journal.Actor.TheVariants as actor
-use Rattle.journal.specs.declared.journal.JournalEntry.{JournalEntry}
 use Rattle.journal.specs.declared.journal.Turn.{Turn}
 use Rattle.journal.specs.declared.wire.Stop.{Stop}
 use Rattle.of_types.specs.declared.setup.Setup.{Setup}
@@ -19,7 +18,7 @@ use Rattle.group_controller.specs.Turns.{Controlling}
 use Rattle.run_spec.specs.Committed.{controller_state, switch_state}
 use Rattle.run_spec.specs.Legal.{results_of}
 use Rattle.run_spec.specs.States.{Sealing, controller_at}
-use Rattle.world.specs.World.{AreNew, AreTold, Holds, IsNew, IsPlayed, Keeps, PairsStand, Worlding, resting_world, results_in, scene_in, starting_switches}
+use Rattle.world.specs.World.{AreTold, Holds, IsNew, IsPlayed, Keeps, PairsStand, Worlding, resting_world, results_in, scene_in, starting_switches}
 use Rattle.world.proofs.Places.{results_at}
 use Rattle.running.specs.declared.run.Played.{Played}
 use Rattle.running.specs.Apart.{FollowsApart}

@@ -11,9 +11,9 @@ use Rattle.journal.specs.declared.journal.Turn.{Turn}
 use Rattle.journal.specs.declared.journal.Turn.TheVariants as turn
 use Rattle.journal.specs.declared.place.PacketPlace.{PacketPlace}
 use Rattle.journal.specs.Orderly.{IsOrderly}
-use Rattle.journal.specs.Part.{drawn, packet_of}
+use Rattle.journal.specs.Part.{drawn}
 use Rattle.journal.specs.Places.{IsFound, packet_at}
-use Rattle.journal.specs.Pool.{past, pick, pool}
+use Rattle.journal.specs.Pool.{past, pick}
 use Rattle.journal.specs.Turns.{entry_of, drawn_entry, lost_entry, posting, posted, turn_actor, turn_entries}
 use Rattle.run_spec.specs.declared.messages.Unsealed.{Unsealed}
 use Rattle.run_spec.specs.Legal.{FitsTypes}

@@ -1,7 +1,7 @@
 -- Lists, by number.
 use Rattle.std.proofs.Common.{◌≡◌, ◌≤◌, ◌<◌, ℕ, ◌+◌, ◌-◌, zero, suc, List, [], ◌∷◌, ◌++◌, length, map, take, drop, refl, sym, ◌∙◌, ap, subst, arith, append_assoc, length-append}
 use Rattle.std.specs.Prelude.{Some, All, Contains, slice_get, slice_index_or}
-use Rattle.std.specs.List.{range_with_len, zip}
+use Rattle.std.specs.List.{zip}
 use Rattle.group_controller.specs.Turns.{Controlling}
 use Rattle.shared_wire.specs.Places.{PlaceState}
 use Rattle.running.specs.declared.seated.Served.{Served}

@@ -1,5 +1,5 @@
 -- A controller beside its stable pair plays on.
-use Rattle.std.proofs.Common.{◌≡◌, ℕ, List, [], ◌∷◌, refl, sym, subst, Result, Ok, Err, IfOk, OnOk, OnErr, IfErr}
+use Rattle.std.proofs.Common.{◌≡◌, ℕ, List, [], ◌∷◌, sym, subst, Result, Ok, Err, IfOk, OnOk, OnErr, IfErr}
 use Rattle.std.specs.Prelude.{Option, Some, None}
 use Rattle.of_types.specs.declared.setup.Setup.{Setup}
 use Rattle.journal.specs.declared.journal.Actor.{Actor}

@@ -1,4 +1,3 @@
-use Rattle.std.proofs.Common.{length, ap}
 use Rattle.std.proofs.lemmas.Result.{err_from_is_err_and}
 use Rattle.world.proofs.Turning.{keeps_then}
 use Rattle.playing.specs.Manners.{In_order}

@@ -1,9 +1,6 @@
-use Rattle.std.proofs.Common.{length, map, drop, refl, sym, ◌∙◌, ap, subst}
-use Rattle.std.specs.Prelude.{All}
+use Rattle.std.proofs.Common.{length, map, refl, ◌∙◌, ap, subst}
 use Rattle.shared_wire.specs.Places.{fresh}
-use Rattle.running.specs.Playing.{ServedPlays, SwitchPlays}
-use Rattle.running.specs.Runs.{actors_up_to, seated, served}
-use Rattle.running.specs.Tasks.{MayBegin}
+use Rattle.running.specs.Runs.{actors_up_to}
 use Rattle.running.specs.Together.{HavePlayed}
 use Rattle.world.proofs.Turning.{none_told}
 use Rattle.running.proofs.Together as together

@@ -10,7 +10,7 @@ use Rattle.vr_log.specs.declared.state.VrOut.{VrOut}
 use Rattle.vr_log.specs.declared.state.VrState.{VrState}
 use Rattle.vr_log.specs.Log.{follows, is_log, IsLog}
 use Rattle.vr_log.specs.Same.{same_entries}
-use Rattle.vr_log.specs.Steps.{VrStep, Did, later_of, then_step, with_log, is_sound, guarded}
+use Rattle.vr_log.specs.Steps.{VrStep, Did, later_of, then_step, with_log, is_sound}
 use Rattle.vr_log.proofs.Logs.{follows-append, follows_take}
 use Rattle.vr_log.proofs.Equal.{entries_same, same_behind}
 

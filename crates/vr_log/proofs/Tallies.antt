@@ -148,8 +148,8 @@ pub appended_is : (log : List Entry) (old new : Tally) (entry : Entry) → IsLog
 appended_is log old new entry lawful t f c = (IsLog_push log entry lawful f, counted_is log old new entry lawful t f c)
 
 -- the tally of a front, and of what was counted behind it
-pub told : (log entries slice : List Entry) (first : ℕ) (kept tally new : Tally) (taken : Bool) → IsLog log → IsTally (take first log) kept → tally ≡ kept → slice ≡ entries → Tells tally slice taken new →
+pub told : (log entries slice : List Entry) (first : ℕ) (tally new : Tally) (taken : Bool) → IsLog log → IsTally (take first log) tally → slice ≡ entries → Tells tally slice taken new →
     (taken ≡ follows (take first log) entries) × (taken ≡ true → IsTally (take first log ++ entries) new)
-told log entries slice first kept tally new taken lawful t same is tells =
-    let r = tells (take first log) (IsLog_take first log lawful) (rw same t) in
+told log entries slice first tally new taken lawful t is tells =
+    let r = tells (take first log) (IsLog_take first log lawful) t in
     (r.0 ∙ rw is refl, λ yes. subst (λ (l : List Entry). IsTally (take first log ++ l) new) is (r.1 yes))

@@ -1,5 +1,5 @@
 //! A log in which each entry may follow those before it.
-ghost use Rattle.std.specs.Prelude.{◌≡◌, ◌++◌, ◌∷◌, [], ◌<◌, ◌≤◌, length, take, drop, true, ◌==◌, if◌then◌else◌, vec_len, vec_capacity, IfOk, OnOk, OnErr};
+ghost use Rattle.std.specs.Prelude.{◌≡◌, ◌++◌, ◌∷◌, [], ◌<◌, ◌≤◌, ◌+◌, ◌^◌, length, take, drop, true, ◌==◌, if◌then◌else◌, vec_len, vec_capacity, IfOk, OnOk, OnErr};
 ghost use Rattle.vr_log.specs.Log.{log_entries, log_size, is_past_limits, may_follow, next_place, received, processed, fits, follows, is_log, IsLog, FrontsAreLogs, full_at, Pushes};
 ghost use Rattle.vr_log.specs.Tally.{IsTally};
 
@@ -71,6 +71,17 @@ fn reserve_one(entries: &mut Vec<Entry>) -> Result<(), AllocError>
         entries.reserve(LOG_ENTRIES as usize)?;
     }
     entries.reserve(1)
+}
+
+/// Makes memory for the first entries with so many behind them, whatever stands behind the first ones now.
+fn reserve_after(entries: &mut Vec<Entry>, first: usize, more: usize) -> Result<(), AllocError>
+    requires first { first ≤ vec_len entries.old }
+    requires few { first + more < 2 ^ 64 }
+    ensures same { entries.new.items ≡ entries.old.items }
+    ensures len { vec_len entries.new ≡ vec_len entries.old }
+    ensures room { OnOk result (first + more ≤ vec_capacity entries.new) }
+{
+    entries.reserve((first + more).saturating_sub(entries.len()))
 }
 
 impl Log {
@@ -216,20 +227,21 @@ impl Log {
     }
 
     /// Keeps the first entries and puts these behind them, or changes nothing where one of them does not
-    /// fit, and tells which. After an `Err` the first ones stand there, or all.
+    /// fit, and tells which. An `Err` changes nothing.
     pub fn replace_after(&mut self, first: usize, entries: Entries) -> Result<bool, AllocError>
         requires { first ≤ length self.old }
         ensures answer { IfOk result (λ taken. taken ≡ follows (take first self.old) entries) }
         ensures after { IfOk result (λ taken. self.new ≡ (if taken then take first self.old ++ entries else self.old)) }
+        ensures err { OnErr result (self.new ≡ self.old) }
     {
-        let kept = self.tally_through(first)?;
-        let mut tally = kept.copy()?;
+        let mut tally = self.tally_through(first)?;
         if !tally.add_all(entries.as_slice())? {
             return Ok(false);
         }
+        let mut entries = entries.into_vec();
+        reserve_after(&mut self.entries, first, entries.len())?;
         self.entries.truncate(first);
-        self.tally = kept;
-        self.entries.append(&mut entries.into_vec())?;
+        self.entries.append(&mut entries)?;
         self.tally = tally;
         Ok(true)
     }

@@ -1,5 +1,5 @@
 //! How a log that came from others takes the place of a member's own.
-ghost use Rattle.std.specs.Prelude.{◌≡◌, ◌≤◌, ◌+◌, ◌++◌, ◌&&◌, nat_le, length, take, if◌then◌else◌, IfOk};
+ghost use Rattle.std.specs.Prelude.{◌≡◌, ◌≤◌, ◌+◌, ◌++◌, ◌&&◌, nat_le, length, take, if◌then◌else◌, IfOk, OnErr};
 ghost use Rattle.vr_log.specs.Log.{IsLog};
 ghost use Rattle.vr_log.specs.Same.{same_entries};
 ghost use Rattle.vr_log.specs.Steps.{with_log, is_sound};
@@ -36,7 +36,7 @@ impl VrState {
 
     /// Keeps the first entries of the log, puts these behind them and takes a commit number, where this leaves
     /// a log that reaches the commit number and has each entry that was committed; else changes nothing.
-    /// Tells which. After an `Err` the state is to be dropped.
+    /// Tells which. An `Err` changes nothing.
     #[tactic(auto, using(crate::proofs::Steps::sound_with))]
     pub fn replace_log(
         &mut self,
@@ -48,6 +48,7 @@ impl VrState {
         requires commit { self.old.commit ≤ length self.old.log }
         ensures answer { IfOk result (λ kept. kept ≡ is_sound self.old (with_log self.old first entries commit)) }
         ensures after { IfOk result (λ kept. self.new ≡ (if kept then with_log self.old first entries commit else self.old)) }
+        ensures err { OnErr result (self.new ≡ self.old) }
     {
         if !self.may_replace(first, entries.as_slice(), commit) {
             return Ok(false);

@@ -16,3 +16,6 @@ pub mod Paths
 pub mod Rows
 pub mod Table
 pub mod Chains
+pub mod Reaching
+pub mod Bounds
+pub mod Asking

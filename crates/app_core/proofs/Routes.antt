@@ -41,7 +41,7 @@ module _ {X : Type 0} (f : ℕ → List X) (x : X) where
     | inr r ↦ (let i = in_flat (first + 1) n r in let a = i.1 in let b = i.2 in (i.0, omega (arith, a), omega (arith, b), i.3))
   ]
 
-  flat_in : (first n k : ℕ) → first ≤ k → k < first + n → In (f k) x → In (flat_map f (range_with_len first n)) x
+  pub flat_in : (first n k : ℕ) → first ≤ k → k < first + n → In (f k) x → In (flat_map f (range_with_len first n)) x
   flat_in first zero k l h i = absurd (omega arith)
   flat_in first (suc n) k l h i = elim (eqb_tells first k) [
     | inl s ↦ in_left (f first) (flat_map f (range_with_len (first + 1) n)) x (subst (λ j. In (f j) x) (sym s.1) i)

@@ -1,6 +1,6 @@
 -- A slot, kind 3: one of several versions of an application, the active one, until a later one is asked for. Its state is the
 -- number of that version, and the version's own state. It is told for any list of rules, which are those of its versions.
-use Rattle.std.specs.Prelude.{ℕ, nat_lt, ◌&&◌, max, List, [], ◌∷◌, length, slice_index_or, Option, Some, None, if◌then◌else◌}
+use Rattle.std.specs.Prelude.{◌≡◌, ℕ, nat_lt, ◌&&◌, max, List, [], ◌∷◌, length, slice_index_or, Option, Some, None, if◌then◌else◌}
 use Rattle.of_types.specs.declared.message.Event.{Event}
 use Rattle.of_types.specs.declared.setup.Setup.{Setup}
 use Rattle.app_core.specs.PartRule.{PartRule, PartStep, no_rule, passes_on}
@@ -12,6 +12,11 @@ version_of versions number = slice_index_or versions number no_rule
 -- the state of a slot at a version
 abbrev pub at_version : ℕ → List ℕ → List ℕ
 at_version number state = number ∷ state
+
+-- what stands at a place is the state of a slot at a version
+abbrev pub IsAtVersion : ℕ → Option (List ℕ) → Type 0
+IsAtVersion number (Some (active ∷ state)) = active ≡ number
+IsAtVersion number _ = ⊥
 
 -- a slot goes to the version that is asked for, as that one starts, where it is listed and above the active one
 abbrev pub upgraded : List PartRule → ℕ → ℕ → List ℕ → List ℕ

@@ -10,6 +10,7 @@ mod manner;
 mod operator;
 mod part;
 mod rules;
+mod shortest;
 mod switch_port;
 
 pub use app::App;
@@ -19,7 +20,9 @@ pub use issued::{Issued, issued_is_single};
 pub use manner::Manner;
 pub use operator::{
     OPERATOR_PORT, OPERATOR_SWITCH, OPERATOR_TYPE, VERSION_PLACE, asked_by, asked_version,
+    operators_choose_versions,
 };
 pub use part::{Part, joined_reactions, start_parts};
 pub use rules::rules_keep_their_laws;
+pub use shortest::{levels_bound_walks, routes_are_shortest};
 pub use switch_port::{Leg, SwitchPort};

@@ -1,6 +1,11 @@
 //! How an operator asks for another version of an application.
-ghost use Rattle.std.specs.Prelude.{◌≡◌};
-ghost use Rattle.app_core.specs.Operator.{asked_by, asked_version};
+ghost use Rattle.std.specs.Prelude.{◌≡◌, ℕ, List, length, slice_get, Some};
+ghost use Rattle.of_types.specs.declared.message.Event.{Event};
+ghost use Rattle.of_types.specs.declared.setup.Setup.{Setup};
+ghost use Rattle.of_types.specs.Setups.{IsSetup};
+ghost use Rattle.app_core.specs.Chain.{chain_after, slot, starting_chain, versions};
+ghost use Rattle.app_core.specs.Operator.{asked_by, asked_version, version_after};
+ghost use Rattle.app_core.specs.Slot.{IsAtVersion};
 
 use of_types::{Event, Happening, fields};
 
@@ -41,3 +46,10 @@ pub fn asked_version(event: &Event) -> Option<u8>
         Happening::PortStatus(_) | Happening::FlowRemoved(_) => None,
     }
 }
+
+/// Which version of a slot is active is for the operator alone: wherever the slot stands in a chain, and whatever events came, it
+/// is what their asking makes of version 0. No part in front of it stops an event that asks.
+pub fn operators_choose_versions()
+    ensures { (setup : Setup) (kinds : List ℕ) (place : ℕ) (events : List Event) → IsSetup setup → slice_get kinds place ≡ Some slot →
+        IsAtVersion (version_after (length versions) events) (slice_get (chain_after kinds setup (starting_chain kinds) events) place) }
+{}

@@ -160,7 +160,7 @@ module _ (setup : Setup) (down : List SwitchPort) (to : ℕ) (is : IsSetup setup
       let ports = over_ports setup down is hop end link in
       let here = level_in hop.switch (port_bounds setup is hop ports.0).0 in
       let there = level_in end.switch (port_bounds setup is end ports.1).0 in (
-        λ other is_other. (let one : end ≡ other = (let x = over_other setup down is hop end link in cc) in
+        λ other is_other. (let one : end ≡ other = (let x = over_other setup down hop end link in cc) in
             let there' : slice_index (levels setup down to) other.switch ≡ level found end.switch = subst (λ (x : SwitchPort). slice_index (levels setup down to) x.switch ≡ level found end.switch) one there in
             omega (arith, here, there', h, same, e)),
         falls_along hops end.switch rest same,
@@ -169,13 +169,15 @@ module _ (setup : Setup) (down : List SwitchPort) (to : ℕ) (is : IsSetup setup
   pub levels_show : to < length setup.ports → ShowRoutes setup down to (levels setup down to)
   levels_show there =
       record {
-        zero_there = level_in to there ∙ f.start;
-        close = λ at end link.
-            let ports = over_ports setup down is at end link in
-            let a = level_in at.switch (port_bounds setup is at ports.0).0 in
-            let b = level_in end.switch (port_bounds setup is end ports.1).0 in
-            let n = near at end link in
-            omega (arith, a, b, n);
+        bounds = record {
+          zero_there = level_in to there ∙ f.start;
+          close = λ at end link.
+              let ports = over_ports setup down is at end link in
+              let a = level_in at.switch (port_bounds setup is at ports.0).0 in
+              let b = level_in end.switch (port_bounds setup is end ports.1).0 in
+              let n = near at end link in
+              omega (arith, a, b, n);
+        };
         falls = λ from w few e. falls_along w from (route_means setup down to is from w e).walks (ap hops_of (sym e) ∙ route_level from);
       }
 

@@ -10,7 +10,7 @@ use Rattle.of_types.specs.declared.message.FlowMod.{FlowMod}
 use Rattle.of_types.specs.declared.message.Fields.{Fields}
 use Rattle.of_types.specs.declared.message.Row.{Row}
 use Rattle.of_types.specs.declared.numbers.TheConstants.{REASON_HARD, REASON_IDLE}
-use Rattle.flow_table.specs.Table.{chosen_row, row_of, same_key, with_row, modified, is_deleted, table_step}
+use Rattle.flow_table.specs.Table.{chosen_row, same_key, with_row, modified, is_deleted, table_step}
 use Rattle.flow_clock.specs.declared.times.Expired.{Expired}
 use Rattle.flow_clock.specs.declared.times.Times.{Times}
 use Rattle.flow_clock.specs.Clocked.{Kept, Clocked, rows_in, with_kept, kept_new, kept_modified, kept_by, kept_hit, clock_change, clock_hit, clock_risen, clock_left, clock_tick, clock_told, is_last, is_over_at, has_aged_at, leaves, expired_row, expired_at, expired_by}

@@ -8,6 +8,6 @@ mod moments;
 mod rows;
 mod times;
 
-pub use laws::rows_stand;
+pub use laws::{rows_stand, rows_stand_in_order};
 pub use rows::TimedRows;
 pub use times::Expired;

@@ -60,7 +60,7 @@ impl<R: Rows> TimedRows<R> {
         ensures accepted { OnOk result (table_fault (rows_in self.old) ports change.now ≡ None) }
         ensures changed { OnOk result (self.new ≡ clock_change self.old change.now) }
         ensures table { OnOk result ((acts : List Act) → self.old ≡ clocked_of acts → self.new ≡ clocked_of (Change change.now ∷ acts)) }
-        ensures refused { IfErr result (λ fault. IsTableRefusal (table_fault (rows_in self.old) ports change.now) change.now.command fault) }
+        ensures refused { IfErr result (λ fault. IsTableRefusal (table_fault (rows_in self.old) ports change.now) change.now fault) }
         ensures unchanged { OnErr result (self.new ≡ self.old) }
     {
         self.change_by_command(change, ports)?;
@@ -71,7 +71,7 @@ impl<R: Rows> TimedRows<R> {
     fn change_by_command(&mut self, change: &FlowMod, ports: u32) -> Result<(), TableFault>
         ensures accepted { OnOk result (table_fault (rows_in self.old) ports change.now ≡ None) }
         ensures changed { OnOk result (self.new ≡ clock_change self.old change.now) }
-        ensures refused { IfErr result (λ fault. IsTableRefusal (table_fault (rows_in self.old) ports change.now) change.now.command fault) }
+        ensures refused { IfErr result (λ fault. IsTableRefusal (table_fault (rows_in self.old) ports change.now) change.now fault) }
         ensures unchanged { OnErr result (self.new ≡ self.old) }
     {
         match change.command {
@@ -88,7 +88,7 @@ impl<R: Rows> TimedRows<R> {
         requires { leaves_times change.now.command ≡ false }
         ensures accepted { OnOk result (table_fault (rows_in self.old) ports change.now ≡ None) }
         ensures changed { OnOk result (self.new ≡ clock_change self.old change.now) }
-        ensures refused { IfErr result (λ fault. IsTableRefusal (table_fault (rows_in self.old) ports change.now) change.now.command fault) }
+        ensures refused { IfErr result (λ fault. IsTableRefusal (table_fault (rows_in self.old) ports change.now) change.now fault) }
         ensures unchanged { OnErr result (self.new ≡ self.old) }
     {
         add(&mut self.rows, &mut self.times, self.clock, change, ports)?;
@@ -100,7 +100,7 @@ impl<R: Rows> TimedRows<R> {
         requires { leaves_times change.now.command ≡ true }
         ensures accepted { OnOk result (table_fault (rows_in self.old) ports change.now ≡ None) }
         ensures changed { OnOk result (self.new ≡ clock_change self.old change.now) }
-        ensures refused { IfErr result (λ fault. IsTableRefusal (table_fault (rows_in self.old) ports change.now) change.now.command fault) }
+        ensures refused { IfErr result (λ fault. IsTableRefusal (table_fault (rows_in self.old) ports change.now) change.now fault) }
         ensures unchanged { OnErr result (self.new ≡ self.old) }
     {
         self.rows.apply(change, ports)?;
@@ -142,7 +142,8 @@ impl<R: Rows> TimedRows<R> {
 
     /// The rows that leave at the next tick, in the order of adding. It takes no memory where no times that are kept are over.
     pub fn leaving(&self) -> Result<Vec<Expired>, AllocError>
-        ensures { IfOk result (λ left. left.items ≡ clock_told self.now) }
+        ensures told { IfOk result (λ left. left.items ≡ clock_told self.now) }
+        ensures table { IfOk result (λ left. (acts : List Act) → self.now ≡ clocked_of acts → self.now.clock < 2 ^ 64 - 1 → left.items ≡ leaving_after (deeds_of acts)) }
     {
         let Some(now) = self.clock.checked_add(1) else {
             return Ok(Vec::new(self.alloc));

@@ -14,7 +14,7 @@ returns-clause-ok c =
     let s = c.args.self.now in
     let told = c.in_ok-letters.ensures.ok in
     let draft = c.in_ok-draft.ensures in
-    let left = c.deref.ensures.value ∙ c.in_ok-left.ensures ∙ ap (λ (x : SwitchState). clock_told x.table) c.self.view_is in
+    let left = c.deref.ensures.value ∙ c.in_ok-left.ensures.told ∙ ap (λ (x : SwitchState). clock_told x.table) c.self.view_is in
     let turn = ticked-drafted s c.deref.result.now left in
     record {
       state_is =

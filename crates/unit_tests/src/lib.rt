@@ -47,4 +47,6 @@ mod sources;
 #[cfg(test)]
 mod tables;
 #[cfg(test)]
+mod timeouts;
+#[cfg(test)]
 mod written;

@@ -110,7 +110,7 @@ pub fn bring_up_switch(down: &mut Vec<SwitchPort>, switch: u8)
     down.retain(|p| p.switch != switch);
 }
 
-/// After every event each address is that of one host, and the ports that are down ascend.
+/// After every event each address is still that of one host, and the ports that are down still ascend.
 pub fn stays_orderly()
     ensures { StaysOrderly }
 {}

@@ -1,5 +1,5 @@
 //! Which ports are down, and where links lead that are up, as ports go down and come up.
-ghost use Rattle.std.specs.Prelude.{◌≡◌, [], Some, IfOk, OnOk};
+ghost use Rattle.std.specs.Prelude.{◌≡◌, [], Some, IfOk, OnOk, OnErr};
 ghost use Rattle.of_types.specs.declared.setup.Setup.{Setup};
 ghost use Rattle.app_core.specs.Routes.{is_link_down, if_up};
 ghost use Rattle.app_core.specs.Routing.{with_known_port, without_port, without_switch};
@@ -96,6 +96,7 @@ fn relink_ports(wires: &Wires, down: &[SwitchPort], table: &mut Vec<Option<Switc
 pub fn port_down(wires: &Wires, links: &mut UpLinks, at: SwitchPort) -> Result<(), AllocError>
     ensures up { (setup : Setup) → IsWires setup wires.now → AreUp setup links.old → AreUp setup links.new }
     ensures down { OnOk result (links.new.down.items ≡ with_known_port links.old.down.items at) }
+    ensures kept { OnErr result ((links.new.down.items ≡ links.old.down.items) × (links.new.table.items ≡ links.old.table.items)) }
 {
     take_down(&mut links.down, at)?;
     relink(wires, links.down.as_slice(), &mut links.table, at);

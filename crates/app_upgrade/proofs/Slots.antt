@@ -1,21 +1,19 @@
 -- A step of a slot, by the parts that are left of it.
-use Rattle.std.proofs.Common.{◌≡◌, ◌<◌, ◌≤◌, ◌++◌, ◌-◌, ◌+◌, ℕ, zero, suc, Bool, true, false, List, [], ◌∷◌, Some, None, Ok, Err, length, map, drop, get_or, refl, sym, ap, ◌∙◌, append-nil, arith, length-drop}
-use Rattle.std.specs.Prelude.{nat_eq, nat_lt, ◌&&◌, IfOk, OnOk, Option, Result, if◌then◌else◌}
+use Rattle.std.proofs.Common.{◌≡◌, ◌<◌, ◌≤◌, ◌-◌, ◌+◌, ℕ, zero, suc, Bool, true, false, List, [], ◌∷◌, Some, None, Ok, Err, length, map, drop, get_or, refl, sym, ap, ◌∙◌, append-nil, arith, length-drop}
+use Rattle.std.specs.Prelude.{nat_lt, ◌&&◌, IfOk, OnOk, Result, if◌then◌else◌}
 use Rattle.std.specs.List.{AllByRecursion}
-use Rattle.std.proofs.lemmas.Bool.{cond_both, lt-ltb, ltb-true, eqb-true, and_parts}
+use Rattle.std.proofs.lemmas.Bool.{cond_both, lt-ltb, ltb-true, and_parts}
 use Rattle.std.proofs.lemmas.List.{drop-drop, drop-map, get_or-drop, get_or-map, length-map}
 use Rattle.std.proofs.lemmas.Grind.{get_or_after_one}
 use Rattle.of_types.specs.declared.message.Command.{Command}
 use Rattle.of_types.specs.declared.message.Event.{Event}
-use Rattle.of_types.specs.declared.message.Happening.{Happening}
-use Rattle.of_types.specs.declared.message.Happening.TheVariants as happening
 use Rattle.of_types.specs.declared.setup.Setup.{Setup}
-use Rattle.app_core.specs.declared.operator.TheConstants.{OPERATOR_SWITCH}
 use Rattle.app_core.specs.Chain.{most_given, part_next, plain_rule_of, rule_of, slot, starting, starting_chain, versions}
-use Rattle.app_core.specs.Operator.{asked_at, asked_version}
+use Rattle.app_core.specs.Operator.{asked_version}
 use Rattle.app_core.specs.PartRule.{PartRule}
 use Rattle.app_core.specs.Parts.{AllFit, PartSteps}
 use Rattle.app_core.specs.Slot.{at_version, version_of}
+use Rattle.app_core.proofs.Asking.{asked_there}
 use Rattle.app_core.proofs.Rows.{aging_row, hub_row, learning_row, pinned_row, routing_row, slot_row}
 use Rattle.app_upgrade.specs.declared.version.Version.{Version}
 use Rattle.app_upgrade.specs.declared.version.Version.TheVariants as version
@@ -40,16 +38,6 @@ few_first (v ∷ parts) = few_in v
 pub at_most : {A E : Type 0} (r : Result A E) (before after most : ℕ) → most ≤ 64 → OnOk r (after ≤ before + most) → OnOk r (after ≤ before + 64)
 at_most (Ok x) before after most few h = omega (arith, few, h)
 at_most (Err e) before after most few h = tt
-
--- an operator asks at a switch that each setup has
-asked_there : (switch : ℕ) (what : Happening) (asked : ℕ) → asked_at switch what ≡ Some asked → switch ≡ 0
-asked_there switch (happening.PacketIn p) asked is = by_switch (nat_eq switch OPERATOR_SWITCH) refl
-  where
-    by_switch : (b : Bool) → nat_eq switch OPERATOR_SWITCH ≡ b → switch ≡ 0
-    by_switch true here = eqb-true switch 0 here
-    by_switch false other = cc (rw other at is)
-asked_there switch (happening.PortStatus p) asked is = absurd cc
-asked_there switch (happening.FlowRemoved r) asked is = absurd cc
 
 -- the rules of the versions, by their numbers
 abbrev of_version : ℕ → PartRule

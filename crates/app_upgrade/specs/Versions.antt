@@ -14,6 +14,11 @@ kind_in (version.Pinned p) = pinned
 kind_in (version.Aging p) = aging
 kind_in (version.Route p) = routing
 
+-- a version learns over a map
+abbrev pub IsOverMap : Version → Type 0
+IsOverMap (version.Learning p) = Unit {0}
+IsOverMap _ = ⊥
+
 -- parts of the last versions, one at least
 pub record AreLast (parts : List Version) : Type 0 where
   pub some : 0 < length parts

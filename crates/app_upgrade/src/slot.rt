@@ -1,11 +1,12 @@
 //! The slot.
-ghost use Rattle.std.specs.Prelude.{◌≡◌, ◌≤◌, ◌<◌, ◌+◌, ◌-◌, ℕ, [], drop, length, map, slice_index_or, IfOk, OnOk};
+ghost use Rattle.std.specs.Prelude.{◌≡◌, ◌≤◌, ◌<◌, ◌+◌, ◌-◌, ℕ, [], drop, false, length, map, slice_get, slice_index_or, Ok, Some, IfOk, IfSome, OnOk};
 ghost use Rattle.of_types.specs.declared.setup.Setup.{Setup};
 ghost use Rattle.app_core.specs.Chain.{slot, learning, versions, most_given, part_next, starting_chain};
+ghost use Rattle.app_core.specs.Operator.{asked_version};
 ghost use Rattle.app_core.specs.Parts.{PartSteps, AllFit};
 ghost use Rattle.app_core.specs.Slot.{at_version};
-ghost use Rattle.app_upgrade.specs.Versions.{AreLast, kind_in};
-ghost use Rattle.version_line.specs.Line.{active_of};
+ghost use Rattle.app_upgrade.specs.Versions.{AreLast, IsOverMap, kind_in};
+ghost use Rattle.version_line.specs.Line.{active_of, left_after};
 
 use crate::hub::Hub;
 use crate::version::Version;
@@ -27,7 +28,8 @@ pub struct Slot {
 /// A part of each version, still to be started, of which this one is the first.
 pub fn versions_from(alloc: Global, first: Version) -> Result<Vec<Version>, AllocError>
     requires { kind_in first ≡ learning }
-    ensures { IfOk result (λ parts. map kind_in parts.items ≡ versions) }
+    ensures kinds { IfOk result (λ parts. map kind_in parts.items ≡ versions) }
+    ensures first { IfOk result (λ parts. slice_get parts.items 0 ≡ Some first) }
 {
     let mut parts = Vec::with_capacity(alloc, VERSIONS)?;
     parts.push(first)?;
@@ -40,7 +42,8 @@ pub fn versions_from(alloc: Global, first: Version) -> Result<Vec<Version>, Allo
 
 /// A part of each version, still to be started, of which the first learns over a map.
 pub fn all_versions(alloc: Global) -> Result<Vec<Version>, AllocError>
-    ensures { IfOk result (λ parts. map kind_in parts.items ≡ versions) }
+    ensures kinds { IfOk result (λ parts. map kind_in parts.items ≡ versions) }
+    ensures first { IfOk result (λ parts. IfSome (slice_get parts.items 0) IsOverMap) }
 {
     versions_from(alloc, Version::Learning(Learning::new(alloc)))
 }
@@ -88,9 +91,13 @@ fn react_active(
 }
 
 impl Slot {
+    ghost use Rattle.app_upgrade.specs.Held.{IsItsParts, parts_in};
+
     /// A slot of these parts, one of each version in order. It takes no memory.
     pub fn new(parts: Vec<Version>) -> Slot
         requires { map kind_in parts.items ≡ versions }
+        ensures version { slice_index_or (⟦<Slot as Part>⟧.numbers result) 0 0 ≡ 0 }
+        ensures held { parts_in result ≡ parts.items }
     {
         Slot { parts }
     }
@@ -104,7 +111,9 @@ impl Slot {
 
     /// How many parts it holds: those of the versions from the active one on.
     pub fn left(&self) -> u32
-        ensures { result ≡ length versions - slice_index_or (⟦<Slot as Part>⟧.numbers self.now) 0 0 }
+        ensures later { result ≡ length versions - slice_index_or (⟦<Slot as Part>⟧.numbers self.now) 0 0 }
+        ensures held { result ≡ length (parts_in self.now) }
+        ensures all { IsItsParts self.now }
     {
         self.parts.len() as u32
     }
@@ -112,6 +121,8 @@ impl Slot {
 
 #[tactic(auto, unfolding(app_core::specs::Chain::rule_of))]
 impl Part for Slot {
+    ghost use Rattle.app_upgrade.specs.Held.{parts_in};
+
     ghost kind_of = { λ _. slot };
 
     ghost numbers = { λ s. at_version (active_of s.parts.items) (slice_index_or (map ⟦<Version as Part>⟧.numbers s.parts.items) 0 []) };
@@ -143,7 +154,17 @@ impl Part for Slot {
         alloc: Global,
         event: &Event,
         out: &mut Commands,
-    ) -> Result<bool, AllocError> {
+    ) -> Result<bool, AllocError>
+        ensures kind { ⟦<Slot as Part>⟧.kind_of self.new ≡ ⟦<Slot as Part>⟧.kind_of self.old }
+        ensures fit { (s : Setup) → ⟦<Slot as Part>⟧.is_fit self.old s → ⟦<Slot as Part>⟧.is_fit self.new s }
+        ensures step { (s : Setup) → ⟦<Slot as Part>⟧.is_fit self.old s → IfOk result (λ stops.
+            PartSteps (part_next slot s (⟦<Slot as Part>⟧.numbers self.old) event.now) (⟦<Slot as Part>⟧.numbers self.new) out.old out.new stops) }
+        ensures few { (s : Setup) → ⟦<Slot as Part>⟧.is_fit self.old s → OnOk result (length out.new ≤ length out.old + most_given slot) }
+
+        // Where a version is asked for it finds no lack of memory, and the parts before that version are gone.
+        ensures asked { (version : ℕ) → asked_version event.now ≡ Some version → result ≡ Ok false }
+        ensures dropped { (version : ℕ) → asked_version event.now ≡ Some version → parts_in self.new ≡ left_after version (parts_in self.old) }
+    {
         match asked_version(event) {
             Some(asked) => {
                 upgrade(&mut self.parts, asked);

@@ -1,5 +1,7 @@
 -- The controllers of every run keep to their side, and so the laws hold of every run.
-use Rattle.std.proofs.Common.{◌≡◌, ℕ, suc, true, List, [], ◌∷◌, ◌++◌, take, drop, sym, ap, ◌∙◌, subst, take-append-drop, append_assoc}
+use Rattle.std.proofs.Common.{◌≡◌, ℕ, suc, true, List, [], ◌∷◌, ◌++◌, length, map, take, drop, sym, ap, ◌∙◌, subst, take-append-drop, append_assoc}
+use Rattle.std.specs.Prelude.{nat_lt, if◌then◌else◌}
+use Rattle.std.specs.List.{range_with_len}
 use Rattle.std.proofs.lemmas.Bool.{cond_both}
 use Rattle.of_types.specs.Setups.{IsSetup}
 use Rattle.journal.specs.declared.journal.Actor.TheVariants as actor
@@ -14,7 +16,7 @@ use Rattle.group_controller.specs.State.{ControllerState, committed}
 use Rattle.controller_moves.proofs.ControllerLaws.Logs.{may_follow_at}
 use Rattle.run_spec.specs.States.{Scene, IsFaithful}
 use Rattle.run_spec.specs.Legal.{IsPossible, results_of}
-use Rattle.run_spec.specs.Committed.{controller_state}
+use Rattle.run_spec.specs.Committed.{controller_state, decided, kept, longest}
 use Rattle.run_spec.specs.Laws.{IsLasting, IsFenced, IsExactlyOnce}
 use Rattle.run_laws.specs.OnceLaws.Facts.{facts_of}
 use Rattle.run_laws.specs.OnceLaws.Invariant.{HoldsOfRun}
@@ -42,11 +44,26 @@ front_valid k log valid front back e is =
     may_follow_at front e (back ++ drop k log) (subst (λ (l : List Entry). is_log l ≡ true) whole valid)
 
 module _ {B : Type 0} (scene : Scene B) (results : List (List SaveResult)) where
-  kept_valid : (entries : List (JournalEntry B)) → AreValidLogs scene results entries
+  kept_valid : (entries : List (JournalEntry B)) (c : ℕ) → IsProperLog (kept scene results c entries)
   kept_valid entries c =
       let now : ControllerState = controller_state scene results c entries in
       let o = (owned_at scene (results_of results c) c (part (actor.Controller c) entries)).now in
       cond_both (is_up now.vr) (committed now) [] (λ (l : List Entry). IsProperLog l) (λ _. front_valid now.vr.commit now.vr.log o.consistent.follow) (λ _ front back e is. absurd (no_split front back e is))
+
+  -- the longest of valid logs is one of them
+  longest_valid : (best : List Entry) (cs : List ℕ) (entries : List (JournalEntry B)) → IsProperLog best → IsProperLog (longest best (map (λ c. kept scene results c entries) cs))
+  longest_valid best [] entries valid = valid
+  longest_valid best (c ∷ cs) entries valid =
+      longest_valid (if nat_lt (length best) (length (kept scene results c entries)) then kept scene results c entries else best) cs entries
+      (cond_both (nat_lt (length best) (length (kept scene results c entries))) (kept scene results c entries) best (λ (l : List Entry). IsProperLog l) (λ _. kept_valid entries c) (λ _. valid))
+
+  decided_valid : (entries : List (JournalEntry B)) → IsProperLog (decided scene results entries)
+  unfolding decided
+  decided_valid [] = λ front back e is. absurd (no_split front back e is)
+  decided_valid (e ∷ before) = longest_valid (decided scene results before) (range_with_len 0 scene.setup.controllers) (e ∷ before) (decided_valid before)
+
+  logs_valid : (entries : List (JournalEntry B)) → AreValidLogs scene results entries
+  logs_valid entries = record { decided = decided_valid entries; each = λ c i. kept_valid (drop i entries) c }
 
   module _ (setup : IsSetup scene.setup) (faithful : IsFaithful scene.sealing) where
     -- where the invariant held of every earlier past, bodies are read as they were sealed
@@ -83,7 +100,7 @@ pub agreement_law : {B : Type 0} → InEveryRun B (λ scene results entries. Are
 agreement_law scene results entries setup faithful possible = agreed scene results setup faithful entries possible (λ i. always scene results setup faithful entries possible (suc i))
 
 pub valid_law : {B : Type 0} → InEveryRun B (λ scene results entries. AreValidLogs scene results entries)
-valid_law scene results entries setup faithful possible = kept_valid scene results entries
+valid_law scene results entries setup faithful possible = logs_valid scene results entries
 
 pub lasting_law : {B : Type 0} → InEveryRun B (λ scene results entries. IsLasting scene results entries)
 lasting_law scene results entries setup faithful possible = is_lasting scene results entries faithful (sides scene results setup faithful) possible

@@ -6,6 +6,7 @@ pub mod Turns
 pub mod Events
 pub mod Addresses
 pub mod Laws
+pub mod FirstLives
 pub mod Rows
 pub mod Told
 pub mod StepViews

@@ -1,7 +1,7 @@
 -- What a turn of a switch makes of the rows of its table: they change by the FLOW_MOD of a command that it carries out, some
 -- leave at a tick, and they open anew with a life.
-use Rattle.std.proofs.Common.{◌≡◌, ℕ, Bool, not, ◌&&◌, List, [], ◌∷◌, length, refl, ◌∙◌, ap, inl}
-use Rattle.std.specs.Prelude.{nat_eq, nat_lt, Option, Some, None, if◌then◌else◌}
+use Rattle.std.proofs.Common.{◌≡◌, ℕ, ◌&&◌, List, [], ◌∷◌, length, refl, ◌∙◌, ap, inl}
+use Rattle.std.specs.Prelude.{nat_eq, nat_lt}
 use Rattle.std.proofs.lemmas.Bool.{cond_both}
 use Rattle.of_types.specs.declared.message.Executed.{Executed}
 use Rattle.of_types.specs.declared.message.Extension.{Extension}

@@ -12,7 +12,7 @@ pub mod run_agreement;
 pub mod switch_tables;
 
 ghost use Rattle.run_laws.specs.AddressLaws.Laws.{WaitsForActors};
-ghost use Rattle.run_laws.specs.Laws.{InEveryRun, AreAgreed, AreValidLogs, IsLed, AreViewsSuspected, ControllersKeepTheirSide};
+ghost use Rattle.run_laws.specs.Laws.{InEveryRun, AreAgreed, AreValidLogs, IsLed, AreViewsSuspected, AreFirstLives, ControllersKeepTheirSide};
 ghost use Rattle.run_laws.specs.Told.{IsSpellableRun};
 ghost use Rattle.run_spec.specs.Laws.{IsLasting, IsExactlyOnce, IsFenced};
 
@@ -27,7 +27,7 @@ pub fn agreement<B>()
     ensures { InEveryRun B (λ scene results entries. AreAgreed scene results entries) }
 {}
 
-/// Each entry of a committed log may follow those before it.
+/// Each entry of what is decided may follow those before it, and so it is with each log that was committed at any time.
 pub fn logs_are_valid<B>()
     ensures { InEveryRun B (λ scene results entries. AreValidLogs scene results entries) }
 {}
@@ -68,4 +68,9 @@ pub fn views_are_suspected<B>()
 /// and each row of its table, and each entry of the decided log, whose events are of switches of the setup.
 pub fn what_is_told_can_be_spelled<B>()
     ensures { InEveryRun B (λ scene results entries. IsSpellableRun scene results entries) }
+{}
+
+/// A switch that was never restarted is in its first life. So what is said of its present life is said of all that it did.
+pub fn unrestarted_is_first<B>()
+    ensures { InEveryRun B (λ scene results entries. AreFirstLives scene entries) }
 {}

@@ -19,7 +19,9 @@ pub fn turn_law()
 {}
 
 /// After each part of a journal the table of a switch, with its clock, is that of what the switch did in its present life:
-/// the FLOW_MODs that it carried out without a fault, the ticks and the frames.
+/// the FLOW_MODs that it carried out without a fault, the ticks and the frames. The rows that leave at its next tick, each with
+/// its reason and counts, are those by what it did, below the end of the clock's numbers. And the FLOW_MODs are those of its
+/// executed commands of that life that had no fault over the table of then, in their order.
 pub fn table_law<B>()
     ensures { (scene : Scene B) (s : ℕ) (own : List (JournalEntry B × Option (Packet B))) → IsTableTold scene s own }
 {}

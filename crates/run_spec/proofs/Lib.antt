@@ -4,3 +4,4 @@ pub mod Pools
 pub mod Pasts
 pub mod Saves
 pub mod Playing
+pub mod Group

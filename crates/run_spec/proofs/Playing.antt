@@ -36,7 +36,7 @@ take_next : {A : Type 0} (xs : List A) (n : ℕ) (x : A) → slice_get xs n ≡ 
 take_next {A = A} xs n x at = take-suc xs n x (slice_get_within xs n x at) ∙ ap (λ (y : A). take n xs ++ y ∷ []) (get_or_from_slice_get xs n x x at)
 
 -- one entry of a list that is laid upon another
-reverse_onto : {A : Type 0} (x : A) (xs ys : List A) → reverse (x ∷ xs) ++ ys ≡ reverse xs ++ (x ∷ ys)
+pub reverse_onto : {A : Type 0} (x : A) (xs ys : List A) → reverse (x ∷ xs) ++ ys ≡ reverse xs ++ (x ∷ ys)
 reverse_onto {A = A} x xs ys = ap (λ (zs : List A). zs ++ ys) (reverse-append (x ∷ []) xs) ∙ append_assoc (reverse xs) (x ∷ []) ys
 
 module _ {B : Type 0} (scene : Scene B) (results : List (List SaveResult)) where
@@ -302,12 +302,7 @@ AreSaved results = AllByRecursion (λ r. r ≡ Saved) results
 abbrev pub AllSaved : List (List SaveResult) → Type 0
 AllSaved results = (c : ℕ) → AreSaved (results_of results c)
 
--- by the list of the controllers, and by their numbers
-pub each_saved : (results : List (List SaveResult)) → AllByRecursion AreSaved results → AllSaved results
-each_saved [] saved c = tt
-each_saved (rs ∷ results) saved zero = saved.0
-each_saved (rs ∷ results) saved (suc c) = each_saved results saved.1 c
-
+-- by the numbers of the controllers
 pub all_saved : (results : List (List SaveResult)) → ((c : ℕ) → c < length results → AreSaved (results_of results c)) → AllSaved results
 all_saved [] saved c = tt
 all_saved (rs ∷ results) saved zero = saved 0 (omega arith)

@@ -8,7 +8,6 @@ use Rattle.journal.specs.declared.journal.JournalEntry.TheVariants.{Post, Draw, 
 use Rattle.journal.specs.declared.journal.Local.TheVariants as local
 use Rattle.journal.specs.declared.journal.Packet.{Packet}
 use Rattle.journal.specs.declared.journal.SaveResult.{SaveResult}
-use Rattle.journal.specs.Part.{part}
 use Rattle.journal.specs.Pool.{pool, past}
 use Rattle.vr_log.specs.declared.entry.LogFull.{LogFull}
 use Rattle.vr_log.specs.Members.{is_up}

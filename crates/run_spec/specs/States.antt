@@ -1,5 +1,5 @@
 -- What an actor holds after its part of a journal, and what it owes. Parts have their newest entry first.
-use Rattle.std.specs.Prelude.{◌≡◌, ℕ, ◌+◌, true, List, [], ◌∷◌, map, slice_index_or, Option, Some, None}
+use Rattle.std.specs.Prelude.{◌≡◌, ℕ, ◌+◌, true, List, [], map, slice_index_or, Option, Some, None}
 use Rattle.list_facts.specs.Fold.{ActorRules, ActorStanding, Step, Takes, Posts, Refuses, Rests, actor_standing, standing_on}
 use Rattle.of_types.specs.declared.setup.Setup.{Setup}
 use Rattle.journal.specs.declared.journal.Actor.{Actor}

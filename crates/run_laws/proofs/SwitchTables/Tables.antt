@@ -27,9 +27,9 @@ use Rattle.command_buffer.specs.declared.buffer.Offer.TheVariants.{Execute, Repe
 use Rattle.command_buffer.specs.Results.{offer_of}
 use Rattle.flow_table.specs.Table.{chosen_row}
 use Rattle.flow_clock.specs.History.{Act, Tick, deeds_of}
-use Rattle.flow_clock.specs.Clocked.{Clocked, rows_in, is_last, clock_change, clock_hit, clock_risen}
+use Rattle.flow_clock.specs.Clocked.{Clocked, is_last, clock_change, clock_hit, clock_risen}
 use Rattle.flow_clock.specs.Holding.{clocked_of}
-use Rattle.flow_clock.proofs.Held.{after_change, after_frame, after_tick, rows_kept}
+use Rattle.flow_clock.proofs.Held.{after_change, after_frame, after_tick}
 use Rattle.of_switch.specs.declared.says.SwitchInput.{SwitchInput}
 use Rattle.of_switch.specs.declared.says.SwitchInput.TheVariants as switch_input
 use Rattle.of_switch.specs.State.{SwitchState, SwitchTurn, quiet_switch, then_turn, posts, greetings, rows_of, life_of}
@@ -37,7 +37,7 @@ use Rattle.of_switch.specs.Events.{raised, packet_raised, is_port_down, port_sta
 use Rattle.of_switch.specs.Forwarding.{is_frame, is_port_up, targets, sends_to, puts_out, puts_all, packet_in_of, through_row, frame_fields_at, counting_ports, on_frame}
 use Rattle.of_switch.specs.Commands.{done_as, counted_command, result_letter, result_of, on_offer, settled, on_command}
 use Rattle.of_switch.specs.Rules.{switch_on_local, on_role, switch_on_plain, on_own_life, life_said, switch_turn}
-use Rattle.run_laws.specs.SwitchTables.Acts.{frame_acts, tick_acts, order_acts, offer_acts, command_acts, own_life_acts, local_acts, acts_in, begins_switch_life, acts_then}
+use Rattle.run_laws.specs.SwitchTables.Acts.{frame_acts, order_acts, offer_acts, command_acts, own_life_acts, acts_then}
 
 -- a turn that leaves this table
 module _ (table : Clocked) where

@@ -20,3 +20,4 @@ pub mod Drawing
 pub mod Applying
 pub mod Viewing
 pub mod Yielding
+pub mod Folded

@@ -34,7 +34,7 @@ one_more before after rose = by_end (cases_lt before (2 ^ 64 - 1))
 
 -- no save was made
 pub unsaved_told : (count : ℕ) (results : List SaveResult) → SavesTold count count results results
-unsaved_told count results = record { more = []; joined = sym (append-nil results); later = omega arith; rose = inl (omega arith) }
+unsaved_told count results = record { more = []; joined = sym (append-nil results); later = omega arith; rose = inl (omega arith); calm = λ none. refl }
 
 -- saves, and then more
 pub told_then : (a b c : ℕ) (xs ys zs : List SaveResult) → SavesTold a b xs ys → SavesTold b c ys zs → SavesTold a c xs zs
@@ -43,6 +43,7 @@ told_then a b c xs ys zs first next = record {
   joined = next.joined ∙ ap (λ l. l ++ next.more) first.joined ∙ append_assoc xs first.more next.more;
   later = let one = first.later in let two = next.later in omega (arith, one, two);
   rose = by_first first.rose;
+  calm = λ none. let n = count_append is_failed first.more next.more in next.calm (omega (arith, n, none)) ∙ first.calm (omega (arith, n, none));
 }
   where
     both : a + count_by is_failed first.more ≤ b → b + count_by is_failed next.more ≤ c → a + count_by is_failed (first.more ++ next.more) ≤ c
@@ -71,6 +72,12 @@ module _ {A W : Type 0} (law : AppLaw A) (saving : Saving W) (x : ControllerInpu
   saved_told saved old_pair new_pair KeptOld s = one_more (saving.faults stable) (saving.faults stable_after) (s.failed (λ h. cc))
   saved_told saved old_pair new_pair KeptNew s = one_more (saving.faults stable) (saving.faults stable_after) (s.failed (λ h. cc))
 
+  saved_calm : (saved old_pair new_pair : ℕ × ℕ) (r : SaveResult) → Saves r saved old_pair new_pair (saving.faults stable) (saving.faults stable_after) →
+      count_by is_failed (r ∷ []) ≡ 0 → saving.faults stable_after ≡ saving.faults stable
+  saved_calm saved old_pair new_pair Saved s none = s.served refl
+  saved_calm saved old_pair new_pair KeptOld s none = absurd (let h = none in cc)
+  saved_calm saved old_pair new_pair KeptNew s none = absurd (let h = none in cc)
+
   told_by : (state : ControllerState) (work : Work) (o : Option (ℕ × ℕ)) → Done state work o (state_of new) letters old.results new.results (saving.pair stable) (saving.pair stable_after) (saving.faults stable) (saving.faults stable_after) →
       SavesTold (saving.faults stable) (saving.faults stable_after) old.results new.results
   told_by state work None d = let same = d.faults_are in record {
@@ -78,12 +85,14 @@ module _ {A W : Type 0} (law : AppLaw A) (saving : Saving W) (x : ControllerInpu
     joined = d.kept ∙ sym (append-nil old.results);
     later = omega (arith, same);
     rose = inl (omega (arith, same));
+    calm = λ none. same;
   }
   told_by state work (Some saved) d = record {
     more = d.result ∷ [];
     joined = d.kept;
     later = d.saves.later;
     rose = saved_told saved (saving.pair stable) (saving.pair stable_after) d.result d.saves;
+    calm = saved_calm saved (saving.pair stable) (saving.pair stable_after) d.result d.saves;
   }
 
   -- the count of faults rises with each save that fails

@@ -3,3 +3,4 @@ pub mod World
 pub mod Refusals
 pub mod Actors
 pub mod Standing
+pub mod Folds

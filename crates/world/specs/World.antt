@@ -132,12 +132,14 @@ is_failed Saved = false
 is_failed KeptOld = true
 is_failed KeptNew = true
 
--- saves were made, with these results: the count of faults never fell, and rose with each that failed, up to its end
+-- saves were made, with these results: the count of faults never fell, and rose with each that failed, up to its end. Where
+-- none failed it stands
 pub record SavesTold (before after : ℕ) (old new : List SaveResult) : Type 0 where
   pub more : List SaveResult
   pub joined : new ≡ old ++ more
   pub later : before ≤ after
   pub rose : (before + count_by is_failed more ≤ after) ⊎ (2 ^ 64 - 1 ≤ after)
+  pub calm : count_by is_failed more ≡ 0 → after ≡ before
 
 -- and so of each controller
 abbrev pub AreTold : {A W : Type 0} → Saving W → List W → List W → List (Controlling A) → List (Controlling A) → Type 0

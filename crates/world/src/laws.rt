@@ -3,6 +3,7 @@
 ghost use Rattle.journal.specs.Pool.{past};
 ghost use Rattle.run_laws.specs.Laws.{AreAgreed, AreValidLogs};
 ghost use Rattle.run_spec.specs.Laws.{IsExactlyOnce, IsFenced, IsLasting};
+ghost use Rattle.world.specs.Folds.{HaveFolded, RunVersions};
 ghost use Rattle.world.specs.World.{ForEachScene, results_in};
 
 use crate::world::World;
@@ -17,8 +18,8 @@ pub fn agreement<B: Body, A: App>(world: &World<B, A>)
     let _ = world;
 }
 
-/// The log that a controller has committed has the events of each life of a switch by number, and so each at most once; and
-/// an event is processed only behind the entry that it was received.
+/// What is decided, and each log that a controller had committed at any time, has the events of each life of a switch by number, and
+/// so each at most once; and an event is processed only behind the entry that it was received.
 pub fn logs_are_valid<B: Body, A: App>(world: &World<B, A>)
     ensures { ForEachScene A.law B.sealing world.now (λ scene.
         AreValidLogs scene (results_in world.now.controllers) (past world.now.journal)) }
@@ -48,6 +49,22 @@ pub fn exactly_once<B: Body, A: App>(world: &World<B, A>)
 pub fn fence<B: Body, A: App>(world: &World<B, A>)
     ensures { ForEachScene A.law B.sealing world.now (λ scene.
         IsFenced scene (past world.now.journal)) }
+{
+    let _ = world;
+}
+
+/// The application of each controller that is not down is where a chain of its kinds comes to by the events that this controller
+/// has committed: a fold over its committed log. So two that have committed the same have the same application.
+pub fn folds<B: Body, A: App>(world: &World<B, A>)
+    ensures { HaveFolded A.law B.sealing world.now }
+{
+    let _ = world;
+}
+
+/// So a slot is at the same version in every replica, after the same committed log: at the one to which operators have brought it
+/// in the events of that log.
+pub fn versions_are_one<B: Body, A: App>(world: &World<B, A>)
+    ensures { RunVersions A.law B.sealing world.now }
 {
     let _ = world;
 }

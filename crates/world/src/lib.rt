@@ -7,5 +7,5 @@ mod outbox;
 mod world;
 
 pub use actors::{controllers_of, fits_types, switches_of, takes_part};
-pub use laws::{agreement, exactly_once, fence, lasting, logs_are_valid};
+pub use laws::{agreement, exactly_once, fence, folds, lasting, logs_are_valid, versions_are_one};
 pub use world::World;

@@ -1,20 +1,22 @@
 -- How a closing ends.
-use Rattle.std.specs.Prelude.{◌≡◌, ◌≤◌, ℕ, List, ◌++◌, reverse}
+use Rattle.std.specs.Prelude.{◌≡◌, ◌≤◌, ℕ, true, List, ◌++◌, reverse}
 use Rattle.of_types.specs.Setups.{IsSetup}
 use Rattle.journal.specs.declared.journal.JournalEntry.{JournalEntry}
 use Rattle.journal.specs.declared.journal.SaveResult.{SaveResult}
 use Rattle.journal.specs.Turns.{IsWithinLimits}
 use Rattle.run_spec.specs.States.{Scene, IsFaithful}
 use Rattle.run_spec.specs.Legal.{IsLegalPast}
-use Rattle.run_spec.specs.Committed.{decided, kept}
+use Rattle.vr_log.specs.Members.{leads}
+use Rattle.run_spec.specs.Committed.{controller_state, decided, kept}
 use Rattle.run_spec.specs.Laws.{IsClosed}
 use Rattle.run_spec.specs.Closing.{Closes, Done}
 use Rattle.dispatcher.specs.Ledger.{most_commands}
 use Rattle.app_core.specs.Chain.{given_by}
 
--- all is done, and what the primary that closed has committed is what is decided
+-- all is done, the primary that closed leads, and what it has committed is what is decided
 pub record HasRested {B : Type 0} (scene : Scene B) (results : List (List SaveResult)) (primary : ℕ) (entries : List (JournalEntry B)) : Type 0 where
   pub closed : IsClosed scene results entries
+  pub leads : leads (controller_state scene results primary entries).vr ≡ true
   pub kept : kept scene results primary entries ≡ decided scene results entries
 
 -- A closing that ends has left nothing undone, where its journal is within the limits, and the applications give no more commands for

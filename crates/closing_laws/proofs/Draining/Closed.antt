@@ -124,5 +124,6 @@ module _ {B : Type 0} (scene : Scene B) (results : List (List SaveResult)) (setu
   pub has_closed : HasRested scene results p P
   has_closed = record {
     closed = record { empty = empty; switches = at_rest; processed_all = all_processed };
+    leads = is_true.leads;
     kept = ap (λ (b : Bool). if b then committed c else []) (up_leads c.vr is_true.leads) ∙ all ∙ sym decided_is;
   }

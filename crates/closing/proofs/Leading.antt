@@ -10,14 +10,15 @@ use Rattle.journal.specs.declared.journal.Letter.{Letter}
 use Rattle.journal.specs.declared.journal.Packet.{Packet}
 use Rattle.journal.specs.declared.journal.SaveResult.{SaveResult}
 use Rattle.journal.specs.declared.journal.Turn.{Turn}
+use Rattle.journal.specs.declared.journal.Turn.TheVariants as turn
 use Rattle.journal.specs.declared.place.PacketPlace.{PacketPlace}
 use Rattle.journal.specs.declared.wire.Stop.{Stop}
 use Rattle.journal.specs.declared.wire.Stop.TheVariants.{OutOfMemory, JournalFull}
 use Rattle.journal.specs.Actors.{actor_of, is_input, IsActor}
 use Rattle.journal.specs.Limits.{letters_limit}
-use Rattle.journal.specs.Pool.{past, pool, without, numbered_letters, fitting, letters_posted}
+use Rattle.journal.specs.Pool.{past, pick, pool, without, numbered_letters, fitting, letters_posted}
 use Rattle.journal.specs.Refusals.{MayBeRefused}
-use Rattle.journal.specs.Turns.{entry_of, turn_actor}
+use Rattle.journal.specs.Turns.{drawn_entry, entry_of, lost_entry, turn_actor}
 use Rattle.journal.proofs.Lists.{past-push}
 use Rattle.journal.specs.Stables.{Saving}
 use Rattle.app_core.specs.Law.{AppLaw}
@@ -28,7 +29,8 @@ use Rattle.world.specs.Refusals.{IsHalted, IsRefusalBehind, IsRefused, None_stan
 use Rattle.world.specs.World.{AreMore, Applies, Holds, IsStuck, Keeps, PairsStand, Worlding, results_in, scene_in, taken, with_posts}
 use Rattle.world.proofs.Growing.{more_then}
 use Rattle.run_laws.specs.Laws.{EntrySuspectsUpTo, IsSuspectedUpTo}
-use Rattle.closing.specs.Closing.{ClosesIn, IsHaltedAt, LeadsTo, Rests, Stage, ClosingStandsAt, work_left}
+use Rattle.closing.specs.Closing.{ClosesIn, IsHaltedAt, LeadsTo, SuspectsNoMore, Stage, ClosingStandsAt, work_left}
+use Rattle.closing.specs.Views.{StepSuspectsUpTo}
 use Rattle.closing.proofs.Worlds.{Runs, posted_is}
 use Rattle.closing.proofs.Turned.{PostsOf, No_post, One_post, Added, added, added_alone, cut_turn, joins, more_before, Turned, more_told, one_move, owed_nothing, past_added, past_joined, same_self}
 use Rattle.closing.proofs.Moves.{First}
@@ -175,24 +177,53 @@ module _ {B A W : Type 0} (law : AppLaw A) (saving : Saving W) (sealing : Sealin
   turn_leads first next moves goes (Ok x) t k stops kinds holds start c = goes x kinds (turned kinds holds k t) start c
   turn_leads first next moves goes (Err stop) t k stops kinds holds start c = stop_leads first next moves stop k stops kinds holds start c
 
-  -- no view above those of before, and above that of the turn, was suspected
-  pub rests_after : (limit : ℕ) → ((most : ℕ) → limit ≤ most → EntrySuspectsUpTo most e) → Applies sealing.size step old new → Rests limit old new
-  rests_after limit suspects t =
-      let a = added sealing.size step old new rested t in
-      record {
-        owed = t.rests;
-        views = λ most low before.
-            subst (λ l. IsSuspectedUpTo most l) (sym (past_added old.journal new.journal e a.posts (a.grown ∙ ap (λ x. old.journal ++ x ∷ a.posts) is)))
-            (behind most (turn_actor step) a.posts (past old.journal) a.of (suspects most low) before);
-      }
-    where
-      behind : (most : ℕ) (a : Actor) (posts before : List (JournalEntry B)) → PostsOf a posts → EntrySuspectsUpTo most e → IsSuspectedUpTo most before → IsSuspectedUpTo most (reverse posts ++ e ∷ before)
-      behind most a _ before No_post here rest = (here, rest)
-      behind most a _ before (One_post first letters lost) here rest = (tt, (here, rest))
+-- an entry of a turn suspects what the turn does
+pub step_suspects : {B : Type 0} (most : ℕ) (step : Turn) (before : List (JournalEntry B)) → StepSuspectsUpTo most step → EntrySuspectsUpTo most (entry_of step before)
+step_suspects {B = B} most (turn.Draw a choice keep) before within = by_found (pick a choice before)
+  where
+    by_found : (o : Option (Packet B)) → EntrySuspectsUpTo most (drawn_entry a keep o)
+    by_found None = tt
+    by_found (Some p) = tt
+step_suspects {B = B} most (turn.Lose a choice) before within = by_found (pick a choice before)
+  where
+    by_found : (o : Option (Packet B)) → EntrySuspectsUpTo most (lost_entry a o)
+    by_found None = tt
+    by_found (Some p) = tt
+step_suspects most (turn.Local a input) before within = within
 
-  pub on_rests : {T : Type 0} (limit : ℕ) → ((most : ℕ) → limit ≤ most → EntrySuspectsUpTo most e) → (result : Result T Stop) → OnOk result (Applies sealing.size step old new) → OnOk result (Rests limit old new)
-  on_rests limit suspects (Ok x) t = rests_after limit suspects t
-  on_rests limit suspects (Err stop) t = tt
+-- however a turn ends, no view above those of before, and above that of the turn, was suspected
+module _ {B A : Type 0} (size : B → ℕ) (step : Turn) (old new : Worlding B A) (limit : ℕ) (rested : old.owed ≡ None) (suspects : (most : ℕ) → limit ≤ most → StepSuspectsUpTo most step) where
+  posted_behind : (most : ℕ) (a : Actor) (posts before : List (JournalEntry B)) (e : JournalEntry B) → PostsOf a posts → EntrySuspectsUpTo most e → IsSuspectedUpTo most before → IsSuspectedUpTo most (reverse posts ++ e ∷ before)
+  posted_behind most a _ before e No_post here rest = (here, rest)
+  posted_behind most a _ before e (One_post first letters lost) here rest = (tt, (here, rest))
+
+  own : (most : ℕ) → limit ≤ most → EntrySuspectsUpTo most (entry_of step (past old.journal))
+  own most low = step_suspects most step (past old.journal) (suspects most low)
+
+  alone : SuspectsNoMore limit old (record old { journal = taken step (with_posts size old).journal })
+  alone most low h =
+      subst (λ l. IsSuspectedUpTo most (past (taken step l))) (sym (owed_nothing size old rested))
+      (subst (λ l. IsSuspectedUpTo most l) (sym (past-push old.journal (entry_of step (past old.journal)))) (own most low, h))
+
+  by_halt : IsHalted size step old new → SuspectsNoMore limit old new
+  by_halt (Unchanged same) most low h = subst (λ (w : Worlding B A). IsSuspectedUpTo most (past w.journal)) (sym same) h
+  by_halt (Posted same) most low h = subst (λ (w : Worlding B A). IsSuspectedUpTo most (past w.journal)) (sym (same ∙ posts_nothing size old rested)) h
+  by_halt (Turned_down r) most low h =
+      subst (λ l. IsSuspectedUpTo most (past l)) (sym r.journal)
+      (subst (λ l. IsSuspectedUpTo most l) (sym (past-push (taken step (with_posts size old).journal) (Refused (turn_actor step)))) (tt, alone most low h))
+  by_halt (Unposted u) most low h = subst (λ l. IsSuspectedUpTo most (past l)) (sym u.journal) (alone most low h)
+
+  by_stop : (stop : Stop) → TurnStops size step old new stop → SuspectsNoMore limit old new
+  by_stop OutOfMemory ends most low h = by_halt ends most low h
+  by_stop (JournalFull bytes letters) (stuck, inl same) most low h = subst (λ (w : Worlding B A). IsSuspectedUpTo most (past w.journal)) (sym same) h
+  by_stop (JournalFull bytes letters) (stuck, inr grown) most low h = subst (λ l. IsSuspectedUpTo most (past l)) (sym grown) (alone most low h)
+
+  pub turn_views : {T : Type 0} (result : Result T Stop) → OnOk result (Applies size step old new) → IfErr result (λ stop. TurnStops size step old new stop) → SuspectsNoMore limit old new
+  turn_views (Ok x) t stops most low h =
+      let a = added size step old new rested t in
+      subst (λ l. IsSuspectedUpTo most l) (sym (past_added old.journal new.journal (entry_of step (past old.journal)) a.posts a.grown))
+      (posted_behind most (turn_actor step) a.posts (past old.journal) (entry_of step (past old.journal)) a.of (own most low) h)
+  turn_views (Err stop) t stops most low h = by_stop stop stops most low h
 
 -- letters that are posted wait, or not
 length-numbered : {B : Type 0} (n : ℕ) (a : Actor) (letters : List (Letter B)) → length (numbered_letters n a letters) ≡ length letters

@@ -1,6 +1,6 @@
 -- Parts of a closing: what they keep of a world, how it begins, and how it ends.
-use Rattle.std.proofs.Common.{◌≡◌, ◌≤◌, ◌<◌, ℕ, ◌+◌, Bool, true, false, List, [], ◌∷◌, ◌++◌, length, refl, sym, ◌∙◌, ap, subst, arith, append_assoc, append-nil}
-use Rattle.std.specs.Prelude.{◌%◌, ◌/◌, nat_lt, reverse, slice_get, Option, Some, None, OnOk, Result, Ok, Err, if◌then◌else◌}
+use Rattle.std.proofs.Common.{◌≡◌, ◌≤◌, ◌<◌, ℕ, ◌+◌, ◌*◌, Bool, true, false, List, [], ◌∷◌, ◌++◌, length, refl, sym, ◌∙◌, ap, subst, arith, append_assoc, append-nil}
+use Rattle.std.specs.Prelude.{◌%◌, ◌/◌, nat_lt, reverse, slice_get, Option, Some, None, Err, if◌then◌else◌}
 use Rattle.std.proofs.lemmas.Bool.{ltb-true, ltb-false}
 use Rattle.std.proofs.lemmas.List.{length-map}
 use Rattle.of_types.specs.declared.setup.Setup.{Setup}
@@ -36,8 +36,8 @@ use Rattle.closing.specs.declared.closed.TurnOutcome.{TurnOutcome}
 use Rattle.closing.specs.declared.closed.TurnOutcome.TheVariants as came
 use Rattle.run_laws.specs.Laws.{IsSuspectedUpTo, SuspectsUpTo}
 use Rattle.closing_laws.proofs.Start.Walking.{seven_at_most}
-use Rattle.closing.specs.Closing.{CameTo, ClosesIn, ClosingStops, Drained, EndsBy, HasClosed, IsCutAt, IsHaltedAt, is_over, LeadsTo, Rests, Stage, ClosingStandsAt, states_in, Suspects, up_in}
-use Rattle.closing.specs.Views.{views_of_an_attempt}
+use Rattle.closing.specs.Views.{views_of_a_closing, views_of_an_attempt}
+use Rattle.closing.specs.Closing.{CameTo, ClosesIn, ClosingStops, Drained, EndsBy, HasClosed, IsCutAt, IsHaltedAt, is_over, LeadsTo, RaisesViewsBy, SuspectsNoMore, Stage, ClosingStandsAt, states_in, Suspects, up_in}
 use Rattle.closing.proofs.Worlds.{Runs, posted_is, states_are}
 use Rattle.closing.proofs.Leading.{halted_in}
 use Rattle.closing.proofs.Turned.{joins, past_joined}
@@ -87,17 +87,23 @@ suspected_more limit most (Lose a id ∷ before) low (here, rest) = (tt, suspect
 suspected_more limit most (Idle a ∷ before) low (here, rest) = (tt, suspected_more limit most before low rest)
 suspected_more limit most (Refused a ∷ before) low (here, rest) = (tt, suspected_more limit most before low rest)
 
-pub rests_then : {B A : Type 0} (limit more : ℕ) (old mid new : Worlding B A) → more ≤ limit → Rests limit old mid → Rests more mid new → Rests limit old new
-rests_then limit more old mid new low a b = record { owed = b.owed; views = λ most high h. b.views most (omega (arith, low, high)) (a.views most high h) }
+pub views_none : {B A : Type 0} (limit : ℕ) (w : Worlding B A) → SuspectsNoMore limit w w
+views_none limit w most high h = h
 
-pub rests_result : {T B A : Type 0} (limit more : ℕ) (old mid new : Worlding B A) (result : Result T Stop) → more ≤ limit → Rests limit old mid → OnOk result (Rests more mid new) → OnOk result (Rests limit old new)
-rests_result limit more old mid new (Ok x) low a b = rests_then limit more old mid new low a b
-rests_result limit more old mid new (Err stop) low a b = tt
+pub views_then : {B A : Type 0} (limit more : ℕ) (old mid new : Worlding B A) → more ≤ limit → SuspectsNoMore limit old mid → SuspectsNoMore more mid new → SuspectsNoMore limit old new
+views_then limit more old mid new low a b most high h = b most (omega (arith, low, high)) (a most high h)
 
-pub views_result : {T B A : Type 0} (result : Result T Stop) (old mid new : Worlding B A) → ((limit : ℕ) → IsSuspectedUpTo limit (past old.journal) → IsSuspectedUpTo limit (past mid.journal)) →
-    OnOk result ((limit : ℕ) → IsSuspectedUpTo limit (past mid.journal) → IsSuspectedUpTo (limit + views_of_an_attempt) (past new.journal)) → OnOk result ((limit : ℕ) → IsSuspectedUpTo limit (past old.journal) → IsSuspectedUpTo (limit + views_of_an_attempt) (past new.journal))
-views_result (Ok x) old mid new first next = λ limit h. next limit (first limit h)
-views_result (Err stop) old mid new first next = tt
+-- what rises by nothing rises by no more
+pub raises_none : {B A : Type 0} (more : ℕ) (old new : Worlding B A) → SuspectsNoMore 0 old new → RaisesViewsBy more old new
+raises_none more old new same limit h = suspected_more limit (limit + more) (past new.journal) (omega arith) (same limit (omega arith) h)
+
+-- behind seven attempts at most the last one rises by no more than a whole closing does
+pub raises_last : {B A : Type 0} (attempts : ℕ) (old mid new : Worlding B A) → attempts ≤ 7 → RaisesViewsBy (views_of_an_attempt * attempts) old mid → RaisesViewsBy views_of_an_attempt mid new → RaisesViewsBy views_of_a_closing old new
+raises_last attempts old mid new few first last limit h =
+    suspected_more (limit + views_of_an_attempt * attempts + views_of_an_attempt) (limit + views_of_a_closing) (past new.journal) (omega (arith, few)) (last (limit + views_of_an_attempt * attempts) (first limit h))
+
+pub raises_then : {B A : Type 0} (more : ℕ) (old mid new : Worlding B A) → SuspectsNoMore 0 old mid → RaisesViewsBy more mid new → RaisesViewsBy more old new
+raises_then more old mid new same next limit h = next limit (same limit (omega arith) h)
 
 module _ {B A W : Type 0} (law : AppLaw A) (saving : Saving W) (sealing : Sealing B) where
   -- a world that was kept, and kept again
@@ -143,11 +149,8 @@ module _ {B A W : Type 0} (law : AppLaw A) (saving : Saving W) (sealing : Sealin
         by_debt None = before
         by_debt (Some d) = by_letters d.actor d.letters
 
-    pub post_rests : Rests 0 old new
-    post_rests = record {
-      owed = ap (λ w. w.owed) is;
-      views = λ most low before. subst (λ l. IsSuspectedUpTo most (past l)) (sym (ap (λ w. w.journal) is)) (post_views most old.owed before);
-    }
+    pub post_suspects : SuspectsNoMore 0 old new
+    post_suspects most low before = subst (λ l. IsSuspectedUpTo most (past l)) (sym (ap (λ w. w.journal) is)) (post_views most old.owed before)
 
     posts_close : (scene : Scene B) (results : List (List SaveResult)) (owed : Option (Debt B)) → IsDebtor owed (past old.journal) → ClosesTo scene results Losing (past old.journal) (posts_of sealing.size owed old.journal) Losing
     posts_close scene results None debtor = refl

@@ -195,10 +195,9 @@ DrainsAll law sealing view quorum result old new = LeadsTo law sealing (Drains v
 abbrev pub ClosesBy : {B A : Type 0} → AppLaw A → Sealing B → ℕ → List ℕ → Result TurnOutcome Stop → Worlding B A → Worlding B A → Type 0
 ClosesBy law sealing view quorum result old new = LeadsTo law sealing (Suspects view quorum quorum) (ClosingStandsAt (CameTo (Drained view quorum)) result) old new
 
--- what a part of a closing keeps of a world: nothing is owed, and no view above a limit was suspected
-pub record Rests {B A : Type 0} (limit : ℕ) (old new : Worlding B A) : Type 0 where
-  pub owed : new.owed ≡ None
-  pub views : (most : ℕ) → limit ≤ most → IsSuspectedUpTo most (past old.journal) → IsSuspectedUpTo most (past new.journal)
+-- no greater view was suspected than before, but for views up to this one
+abbrev pub SuspectsNoMore : {B A : Type 0} → ℕ → Worlding B A → Worlding B A → Type 0
+SuspectsNoMore limit old new = (most : ℕ) → limit ≤ most → IsSuspectedUpTo most (past old.journal) → IsSuspectedUpTo most (past new.journal)
 
 -- the greatest view that was suspected grew by no more than this
 abbrev pub RaisesViewsBy : {B A : Type 0} → ℕ → Worlding B A → Worlding B A → Type 0

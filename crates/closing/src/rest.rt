@@ -5,8 +5,8 @@ ghost use Rattle.run_spec.specs.Closing.{Losing, closing_view, majority, quorum_
 ghost use Rattle.world.specs.World.{ForEachScene, Holds, Keeps, PairsStand};
 ghost use Rattle.run_laws.specs.Laws.{IsSuspectedUpTo};
 ghost use Rattle.closing_laws.specs.Quorum.{has};
-ghost use Rattle.closing.specs.Closing.{AllSuspect, Attempts, ClosesBy, ClosesIn, ClosingStops, DrainsAll, HasEnded, HasMajority, RaisesViewsBy, Rests, StaysAt, UpBy, UpTo, up_in};
-ghost use Rattle.closing.specs.Views.{most_view_of_a_closing, most_view_of_a_script, views_of_an_attempt};
+ghost use Rattle.closing.specs.Closing.{AllSuspect, Attempts, ClosesBy, ClosesIn, ClosingStops, DrainsAll, HasEnded, HasMajority, RaisesViewsBy, SuspectsNoMore, StaysAt, UpBy, UpTo, up_in};
+ghost use Rattle.closing.specs.Views.{most_view_of_a_closing, most_view_of_a_script, views_of_a_closing, views_of_an_attempt};
 
 use crate::closed::{ClosingOutcome, TurnOutcome};
 use crate::quorum::{closing_view, members_up};
@@ -21,7 +21,8 @@ use world::World;
 /// Brings a world to rest: what waits is lost, the members of a quorum start the least view above all, and what they and
 /// the switches then say is drawn until nothing waits, or until a proposal finds no room in the log. Where a member's
 /// save fails, it begins again. At its end nothing is left undone, and what its primary has committed is what is decided.
-/// Where a turn finds no memory it stops, and the world may be closed again.
+/// Where a turn finds no memory it stops. However it ends, the greatest view that was suspected grew by at most 64
+/// (`views_of_a_closing`): so the world may be closed again while that is not above 4,000,000,000 (`may_close`).
 pub fn run<B: Body, A: App, W: Stable>(
     alloc: Global,
     world: &mut World<B, A>,
@@ -32,6 +33,7 @@ pub fn run<B: Body, A: App, W: Stable>(
     requires views { IsSuspectedUpTo most_view_of_a_script (past world.old.journal) }
     ensures keeps { Keeps A.law W.saving B.sealing world.old stables.old world.new stables.new }
     ensures rests { OnOk result (world.new.owed ≡ None) }
+    ensures views { RaisesViewsBy views_of_a_closing world.old world.new }
     ensures closes { ForEachScene A.law B.sealing world.old (λ scene. IfOk result (HasEnded scene world.old world.new)) }
     ensures up { IfOk result (λ closed. HasMajority closed world.old world.new) }
     ensures stops { ForEachScene A.law B.sealing world.old (λ scene. IfErr result (ClosingStops scene world.old world.new)) }
@@ -53,7 +55,8 @@ fn lose_all<B: Body, A: App, W: Stable>(
     requires holds { (kinds : List ℕ) × Holds A.law B.sealing world.old kinds }
     requires pairs { PairsStand W.saving stables.old world.old.controllers }
     ensures keeps { Keeps A.law W.saving B.sealing world.old stables.old world.new stables.new }
-    ensures rests { OnOk result (Rests 0 world.old world.new) }
+    ensures rests { OnOk result (world.new.owed ≡ None) }
+    ensures views { SuspectsNoMore 0 world.old world.new }
     ensures closes { StaysAt A.law B.sealing (ClosesIn Losing) result world.old world.new }
     ensures up { OnOk result (up_in world.new ≡ up_in world.old) }
     ensures empty { OnOk result (pool (past world.new.journal) ≡ []) }
@@ -69,7 +72,8 @@ fn clear<B: Body, A: App, W: Stable>(world: &mut World<B, A>, stables: &mut [W])
     requires holds { (kinds : List ℕ) × Holds A.law B.sealing world.old kinds }
     requires pairs { PairsStand W.saving stables.old world.old.controllers }
     ensures keeps { Keeps A.law W.saving B.sealing world.old stables.old world.new stables.new }
-    ensures rests { OnOk result (Rests 0 world.old world.new) }
+    ensures rests { OnOk result (world.new.owed ≡ None) }
+    ensures views { SuspectsNoMore 0 world.old world.new }
     ensures closes { StaysAt A.law B.sealing (ClosesIn Losing) result world.old world.new }
     ensures up { OnOk result (up_in world.new ≡ up_in world.old) }
     ensures empty { OnOk result (pool (past world.new.journal) ≡ []) }
@@ -90,7 +94,8 @@ fn suspect<B: Body, A: App, W: Stable>(
     requires pairs { PairsStand W.saving stables.old world.old.controllers }
     requires up { (n : ℕ) → has quorum.now n ≡ true → has (up_in world.old) n ≡ true }
     ensures keeps { Keeps A.law W.saving B.sealing world.old stables.old world.new stables.new }
-    ensures rests { OnOk result (Rests view world.old world.new) }
+    ensures rests { OnOk result (world.new.owed ≡ None) }
+    ensures views { SuspectsNoMore view world.old world.new }
     ensures suspects { AllSuspect A.law B.sealing view quorum.now result world.old world.new }
     ensures up { IfOk result (λ came. UpBy came (up_in world.old) (up_in world.new)) }
 {
@@ -115,7 +120,8 @@ fn drain<B: Body, A: App, W: Stable>(
     requires pairs { PairsStand W.saving stables.old world.old.controllers }
     requires up { (n : ℕ) → has quorum.now n ≡ true → has (up_in world.old) n ≡ true }
     ensures keeps { Keeps A.law W.saving B.sealing world.old stables.old world.new stables.new }
-    ensures rests { OnOk result (Rests 0 world.old world.new) }
+    ensures rests { OnOk result (world.new.owed ≡ None) }
+    ensures views { SuspectsNoMore 0 world.old world.new }
     ensures drains { DrainsAll A.law B.sealing view quorum.now result world.old world.new }
     ensures up { IfOk result (λ came. UpBy came (up_in world.old) (up_in world.new)) }
 {
@@ -140,7 +146,8 @@ fn close_by<B: Body, A: App, W: Stable>(
     requires pairs { PairsStand W.saving stables.old world.old.controllers }
     requires up { (n : ℕ) → has quorum.now n ≡ true → has (up_in world.old) n ≡ true }
     ensures keeps { Keeps A.law W.saving B.sealing world.old stables.old world.new stables.new }
-    ensures rests { OnOk result (Rests view world.old world.new) }
+    ensures rests { OnOk result (world.new.owed ≡ None) }
+    ensures views { SuspectsNoMore view world.old world.new }
     ensures closes { ClosesBy A.law B.sealing view quorum.now result world.old world.new }
     ensures up { IfOk result (λ came. UpBy came (up_in world.old) (up_in world.new)) }
 {
@@ -167,7 +174,7 @@ fn close_cleared<B: Body, A: App, W: Stable>(
     requires views { IsSuspectedUpTo most_view_of_a_closing (past world.old.journal) }
     ensures keeps { Keeps A.law W.saving B.sealing world.old stables.old world.new stables.new }
     ensures owed { OnOk result (world.new.owed ≡ None) }
-    ensures views { OnOk result (RaisesViewsBy views_of_an_attempt world.old world.new) }
+    ensures views { RaisesViewsBy views_of_an_attempt world.old world.new }
     ensures closes { Attempts A.law B.sealing result world.old world.new }
     ensures up { IfOk result (λ closed. UpTo closed world.old world.new) }
 {
@@ -194,7 +201,7 @@ fn close_once<B: Body, A: App, W: Stable>(
     requires views { IsSuspectedUpTo most_view_of_a_closing (past world.old.journal) }
     ensures keeps { Keeps A.law W.saving B.sealing world.old stables.old world.new stables.new }
     ensures owed { OnOk result (world.new.owed ≡ None) }
-    ensures views { OnOk result (RaisesViewsBy views_of_an_attempt world.old world.new) }
+    ensures views { RaisesViewsBy views_of_an_attempt world.old world.new }
     ensures closes { Attempts A.law B.sealing result world.old world.new }
     ensures up { IfOk result (λ closed. UpTo closed world.old world.new) }
 {

@@ -8,7 +8,7 @@ ghost use Rattle.run_spec.specs.Closing.{Losing, is_drawn};
 ghost use Rattle.world.specs.World.{Holds, Keeps, PairsStand};
 ghost use Rattle.run_laws.specs.Laws.{IsSuspectedUpTo};
 ghost use Rattle.closing_laws.specs.Quorum.{has};
-ghost use Rattle.closing.specs.Closing.{HaveViewsUpTo, CameAt, came_of, ClosesIn, Drains, DrainsOne, HasLessLeft, IsFirst, is_over, NextSuspects, Rests, StaysAt, UpBy, up_in};
+ghost use Rattle.closing.specs.Closing.{HaveViewsUpTo, CameAt, came_of, ClosesIn, Drains, DrainsOne, HasLessLeft, IsFirst, is_over, NextSuspects, SuspectsNoMore, StaysAt, UpBy, up_in};
 
 use crate::closed::TurnOutcome;
 use app_core::App;
@@ -82,7 +82,8 @@ pub fn lose_first<B: Body, A: App, W: Stable>(
     requires pairs { PairsStand W.saving stables.old world.old.controllers }
     requires first { IsFirst place world.old.journal }
     ensures keeps { Keeps A.law W.saving B.sealing world.old stables.old world.new stables.new }
-    ensures rests { OnOk result (Rests 0 world.old world.new) }
+    ensures rests { OnOk result (world.new.owed ≡ None) }
+    ensures views { SuspectsNoMore 0 world.old world.new }
     ensures closes { StaysAt A.law B.sealing (ClosesIn Losing) result world.old world.new }
     ensures drains { (view : ℕ) (quorum : List ℕ) → is_drawn quorum place.from place.to ≡ false →
         StaysAt A.law B.sealing (Drains view quorum) result world.old world.new }
@@ -111,7 +112,8 @@ pub fn suspect_next<B: Body, A: App, W: Stable>(
     requires pairs { PairsStand W.saving stables.old world.old.controllers }
     requires up { has (up_in world.old) number ≡ true }
     ensures keeps { Keeps A.law W.saving B.sealing world.old stables.old world.new stables.new }
-    ensures rests { OnOk result (Rests view world.old world.new) }
+    ensures rests { OnOk result (world.new.owed ≡ None) }
+    ensures views { SuspectsNoMore view world.old world.new }
     ensures suspects { (quorum members : List ℕ) →
         NextSuspects A.law B.sealing view quorum number members result world.old world.new }
     ensures up { IfOk result (λ came. UpBy came (up_in world.old) (up_in world.new)) }
@@ -137,7 +139,8 @@ pub fn draw_first<B: Body, A: App, W: Stable>(
     requires drawn { is_drawn quorum.now place.from place.to ≡ true }
     requires up { (n : ℕ) → has quorum.now n ≡ true → has (up_in world.old) n ≡ true }
     ensures keeps { Keeps A.law W.saving B.sealing world.old stables.old world.new stables.new }
-    ensures rests { OnOk result (Rests 0 world.old world.new) }
+    ensures rests { OnOk result (world.new.owed ≡ None) }
+    ensures views { SuspectsNoMore 0 world.old world.new }
     ensures drains { DrainsOne A.law B.sealing view quorum.now result world.old world.new }
     ensures up { IfOk result (λ came. UpBy came (up_in world.old) (up_in world.new)) }
     ensures less { OnOk result (HasLessLeft world.old world.new) }
@@ -178,7 +181,8 @@ pub fn drain_first<B: Body, A: App, W: Stable>(
     requires first { IsFirst place world.old.journal }
     requires up { (n : ℕ) → has quorum.now n ≡ true → has (up_in world.old) n ≡ true }
     ensures keeps { Keeps A.law W.saving B.sealing world.old stables.old world.new stables.new }
-    ensures rests { OnOk result (Rests 0 world.old world.new) }
+    ensures rests { OnOk result (world.new.owed ≡ None) }
+    ensures views { SuspectsNoMore 0 world.old world.new }
     ensures drains { DrainsOne A.law B.sealing view quorum.now result world.old world.new }
     ensures up { IfOk result (λ came. UpBy came (up_in world.old) (up_in world.new)) }
     ensures less { OnOk result (HasLessLeft world.old world.new) }

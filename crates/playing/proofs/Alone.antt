@@ -1,20 +1,18 @@
 -- Behind a script whose actors played apart.
 use Rattle.std.proofs.Common.{◌≡◌, ◌≤◌, ◌<◌, ℕ, Bool, true, false, List, [], ◌∷◌, ◌++◌, length, refl, sym, ◌∙◌, ap, subst, arith}
-use Rattle.std.specs.Prelude.{drop, filter, take, Option, Some, None}
+use Rattle.std.specs.Prelude.{drop, filter, take}
 use Rattle.std.specs.List.{AllByRecursion}
 use Rattle.std.proofs.Math.Seq.{take-append_seam}
 use Rattle.journal.specs.declared.journal.Actor.{Actor}
 use Rattle.journal.specs.declared.journal.Actor.TheVariants as actor
 use Rattle.journal.specs.declared.journal.JournalEntry.{JournalEntry}
 use Rattle.journal.specs.declared.journal.JournalEntry.TheVariants.{Post, Draw, Lose, Local, Idle, Refused}
-use Rattle.journal.specs.declared.journal.Packet.{Packet}
 use Rattle.journal.specs.declared.journal.SaveResult.{SaveResult}
 use Rattle.journal.specs.declared.journal.Turn.{Turn}
-use Rattle.journal.specs.declared.journal.Turn.TheVariants as turn
 use Rattle.journal.specs.Actors.{actor_of, same_actor, IsActor}
 use Rattle.journal.specs.Part.{part}
-use Rattle.journal.specs.Pool.{past, pick}
-use Rattle.journal.specs.Turns.{drawn_entry, entry_of, lost_entry, turn_actor}
+use Rattle.journal.specs.Pool.{past}
+use Rattle.journal.specs.Turns.{turn_actor}
 use Rattle.run_laws.specs.Laws.{EntrySuspectsUpTo, IsSuspectedUpTo}
 use Rattle.run_spec.specs.Legal.{IsLegalPast, results_of}
 use Rattle.run_spec.specs.Script.{owed_of}
@@ -33,8 +31,10 @@ use Rattle.closing.specs.Closing.{HasMajority, up_in}
 use Rattle.running.specs.declared.run.Played.{Played}
 use Rattle.running.specs.Apart.{FollowsApart, In_the_script, IsStepAt, TakesOwn, inputs_of, steps_of}
 use Rattle.running.specs.Threads.{HaltsApart}
+use Rattle.closing.specs.Views.{StepSuspectsUpTo}
+use Rattle.closing.proofs.Leading.{step_suspects}
 use Rattle.playing.specs.Manners.{Apart}
-use Rattle.playing.specs.Played.{HaltsAs, HasFollowed, StepSuspectsUpTo}
+use Rattle.playing.specs.Played.{HaltsAs, HasFollowed}
 use Rattle.playing.proofs.Stopping.{all_found, same_self}
 
 -- ---- whatever becomes of later saves
@@ -65,19 +65,6 @@ all_kept P p (x ∷ xs) all = by_test (p x) refl (all_kept P p xs all.1)
     by_test false is rest = rw is rest
 
 module _ {B : Type 0} (limit : ℕ) where
-  step_suspects : (step : Turn) (before : List (JournalEntry B)) → StepSuspectsUpTo limit step → EntrySuspectsUpTo limit (entry_of step before)
-  step_suspects (turn.Draw a choice keep) before within = by_pick (pick a choice before)
-    where
-      by_pick : (o : Option (Packet B)) → EntrySuspectsUpTo limit (drawn_entry a keep o)
-      by_pick None = tt
-      by_pick (Some p) = tt
-  step_suspects (turn.Lose a choice) before within = by_pick (pick a choice before)
-    where
-      by_pick : (o : Option (Packet B)) → EntrySuspectsUpTo limit (lost_entry a o)
-      by_pick None = tt
-      by_pick (Some p) = tt
-  step_suspects (turn.Local a input) before within = within
-
   module _ (scene : Scene B) (results : List (List SaveResult)) (steps : List Turn) (within : AllByRecursion (λ t. StepSuspectsUpTo limit t) steps) where
     entry_suspects : (a : Actor) (e : JournalEntry B) (before : List (JournalEntry B)) → IsStepAt (steps_of a steps) (inputs_of a before) e before → EntrySuspectsUpTo limit e
     entry_suspects a (Post b first letters lost) before is = tt
@@ -88,7 +75,7 @@ module _ {B : Type 0} (limit : ℕ) where
     entry_suspects a (Local b input) before is =
         let mine = all_kept (λ t. StepSuspectsUpTo limit t) (λ t. same_actor (turn_actor t) a) steps within in
         let found = all_found (λ t. StepSuspectsUpTo limit t) (steps_of a steps) (inputs_of a before) is.0 mine is.1 in
-        subst (λ x. EntrySuspectsUpTo limit x) (sym is.2) (step_suspects is.0 before found)
+        subst (λ x. EntrySuspectsUpTo limit x) (sym is.2) (step_suspects limit is.0 before found)
 
     each_suspects : (script : List (JournalEntry B)) → AllByRecursion (λ e. IsActor scene.setup (actor_of e)) script →
         ((a : Actor) → IsActor scene.setup a → TakesOwn a steps script) → IsSuspectedUpTo limit script

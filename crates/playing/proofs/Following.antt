@@ -28,11 +28,12 @@ use Rattle.world.specs.World.{AreMore, Applies, Holds, IsStuck, Keeps, PairsStan
 use Rattle.world.specs.Debts.{Debt}
 use Rattle.world.proofs.Growing.{more_then, no_more}
 use Rattle.world.proofs.Turning.{keeps_then, rests_keeps}
-use Rattle.closing.proofs.Leading.{runs_again, turned, turned_by}
+use Rattle.closing.proofs.Leading.{runs_again, turned, turned_by, step_suspects}
 use Rattle.closing.proofs.Turned.{Added, No_post, One_post, PostsOf, Turned, added_alone, more_before, more_told, owed_nothing, past_new}
 use Rattle.closing.proofs.Worlds.{posted_is}
+use Rattle.closing.specs.Views.{StepSuspectsUpTo}
 use Rattle.playing.proofs.Stopping.{same_self, stuck_full}
-use Rattle.playing.specs.Played.{IsHaltedIn, Lastingly, RunStops, StepSuspectsUpTo}
+use Rattle.playing.specs.Played.{IsHaltedIn, Lastingly, RunStops}
 use Rattle.playing.specs.Played as halted
 
 -- the entry of the next step is that of a step
@@ -87,26 +88,13 @@ module _ {B A : Type 0} (law : AppLaw A) (scene : Scene B) (e : JournalEntry B) 
         by_posts posts a mine (One_post first letters lost) = ((t.input, ap (λ x. same_actor x a) mine ∙ same_self a), (λ h. absurd (never h)), takes_entry)
 
 -- the views that were suspected
-suspects_entry : {B : Type 0} (limit : ℕ) (step : Turn) (before : List (JournalEntry B)) → StepSuspectsUpTo limit step → EntrySuspectsUpTo limit (entry_of step before)
-suspects_entry {B = B} limit (turn.Draw a choice keep) before within = by_found (pick a choice before)
-  where
-    by_found : (o : Option (Packet B)) → EntrySuspectsUpTo limit (drawn_entry a keep o)
-    by_found None = tt
-    by_found (Some p) = tt
-suspects_entry {B = B} limit (turn.Lose a choice) before within = by_found (pick a choice before)
-  where
-    by_found : (o : Option (Packet B)) → EntrySuspectsUpTo limit (lost_entry a o)
-    by_found None = tt
-    by_found (Some p) = tt
-suspects_entry {B = B} limit (turn.Local a input) before within = within
-
 pub suspects_turn : {B A : Type 0} (law : AppLaw A) (scene : Scene B) (e : JournalEntry B) (old new : Worlding B A) (t : Turned law scene e old new) (limit : ℕ) (step : Turn) → e ≡ entry_of step (past old.journal) →
     StepSuspectsUpTo limit step → IsSuspectedUpTo limit (past old.journal) → IsSuspectedUpTo limit (past new.journal)
 suspects_turn law scene e old new t limit step is within before =
     subst (λ l. IsSuspectedUpTo limit l) (sym (past_new law scene e old new t)) (by_posts t.posts (actor_of e) t.of)
   where
     entry : EntrySuspectsUpTo limit e
-    entry = subst (λ x. EntrySuspectsUpTo limit x) (sym is) (suspects_entry limit step (past old.journal) within)
+    entry = subst (λ x. EntrySuspectsUpTo limit x) (sym is) (step_suspects limit step (past old.journal) within)
 
     by_posts : (posts : List (JournalEntry _)) (a : Actor) → PostsOf a posts → IsSuspectedUpTo limit (reverse posts ++ e ∷ past old.journal)
     by_posts posts a No_post = (entry, before)

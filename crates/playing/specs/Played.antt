@@ -3,11 +3,9 @@ use Rattle.std.specs.Prelude.{◌≡◌, ℕ, List, ◌++◌, length}
 use Rattle.journal.specs.declared.journal.JournalEntry.{JournalEntry}
 use Rattle.journal.specs.declared.journal.SaveResult.{SaveResult}
 use Rattle.journal.specs.declared.journal.Turn.{Turn}
-use Rattle.journal.specs.declared.journal.Turn.TheVariants as turn
 use Rattle.journal.specs.declared.wire.Stop.{Stop}
 use Rattle.journal.specs.declared.wire.Stop.TheVariants.{OutOfMemory, JournalFull}
 use Rattle.journal.specs.Pool.{past}
-use Rattle.run_laws.specs.Laws.{SuspectsUpTo}
 use Rattle.run_spec.specs.Script.{FollowsInOrder, TakesInOrder}
 use Rattle.run_spec.specs.Closing.{Losing, Phase, Closes, ClosesTo}
 use Rattle.run_spec.specs.States.{Scene, Sealing}
@@ -20,11 +18,6 @@ use Rattle.running.specs.Threads.{IsLeftLegal, IsLeftPaired}
 use Rattle.closing.specs.declared.closed.ClosingOutcome.{ClosingOutcome}
 use Rattle.closing.specs.Closing.{HasReason, IsBounded, closing_answer_of}
 use Rattle.playing.specs.Manners.{Manner, In_order, Apart, Begins, FollowsManner}
-
--- a step suspects a view up to this one, or none
-abbrev pub StepSuspectsUpTo : ℕ → Turn → Type 0
-StepSuspectsUpTo limit (turn.Local a input) = SuspectsUpTo limit input
-StepSuspectsUpTo limit _ = Unit {0}
 
 -- a claim over the results of a world's saves, which stands whatever becomes of later ones
 abbrev pub Lastingly : {B A : Type 0} → Worlding B A → (List (List SaveResult) → Type 0) → Type 0

@@ -6,9 +6,9 @@ ghost use Rattle.journal.specs.Turns.{IsWithinLimits, turn_actor};
 ghost use Rattle.journal.specs.Pool.{past};
 ghost use Rattle.world.specs.World.{ForEachScene, Holds, Keeps, PairsStand};
 ghost use Rattle.closing.specs.Closing.{HasMajority};
-ghost use Rattle.closing.specs.Views.{most_view_of_a_script};
+ghost use Rattle.closing.specs.Views.{most_view_of_a_script, StepSuspectsUpTo};
 ghost use Rattle.playing.specs.Manners.{Apart};
-ghost use Rattle.playing.specs.Played.{HaltsAs, HasPlayed, StepSuspectsUpTo};
+ghost use Rattle.playing.specs.Played.{HaltsAs, HasPlayed};
 
 use app_core::App;
 use closing::ClosingOutcome;

@@ -7,9 +7,9 @@ ghost use Rattle.journal.specs.Turns.{turn_actor};
 ghost use Rattle.run_laws.specs.Laws.{IsSuspectedUpTo};
 ghost use Rattle.world.specs.World.{ForEachScene, Holds, Keeps, PairsStand};
 ghost use Rattle.closing.specs.Closing.{HasMajority};
-ghost use Rattle.closing.specs.Views.{most_view_of_a_script};
+ghost use Rattle.closing.specs.Views.{most_view_of_a_script, StepSuspectsUpTo};
 ghost use Rattle.playing.specs.Manners.{In_order};
-ghost use Rattle.playing.specs.Played.{HasFollowed, HasPlayedTo, RunStops, StepSuspectsUpTo};
+ghost use Rattle.playing.specs.Played.{HasFollowed, HasPlayedTo, RunStops};
 
 use app_core::App;
 use closing::ClosingOutcome;

@@ -1,9 +1,10 @@
-use Rattle.std.proofs.Common.{arith}
+use Rattle.std.proofs.Common.{arith, subst, sym}
 use Rattle.std.proofs.lemmas.Result.{err_from_is_err_and}
 use Rattle.run_spec.specs.Closing.{Losing}
-use Rattle.closing.specs.Closing.{ClosesIn, ClosingStandsAt}
+use Rattle.world.specs.World.{Worlding}
+use Rattle.closing.specs.Closing.{ClosesIn, ClosingStandsAt, SuspectsNoMore}
 use Rattle.closing.proofs.Leading.{leads_then}
-use Rattle.closing.proofs.Parts.{keeps_then, post_keeps, post_leads, post_rests, post_stops, rests_result, same_keeps}
+use Rattle.closing.proofs.Parts.{keeps_then, post_keeps, post_leads, post_suspects, post_stops, views_none, views_then, same_keeps}
 use Rattle.closing.proofs.rest.clear.Goals as goal
 
 pub returns-in_err-post_owed-clause-keeps : goal.returns-in_err-post_owed-clause-keeps
@@ -31,11 +32,15 @@ returns-clause-keeps g c =
     let post = post_keeps law g.W.Stable.saving sealing c.args.world.now c.post_owed.new.self c.args.stables.now c.requires.pairs c.in_ok-post_owed.ensures.posts c.post_owed.ensures.holds in
     keeps_then law g.W.Stable.saving sealing c.args.world.now c.post_owed.new.self c.lose_all.new.world c.args.stables.now c.args.stables.now c.lose_all.new.stables post c.lose_all.ensures.keeps
 
-pub returns-clause-rests : goal.returns-clause-rests
-returns-clause-rests g c =
+pub returns-clause-views : goal.returns-clause-views
+returns-clause-views g c =
     let law = g.A.App.law in
     let sealing = g.B.Body.sealing in
-    rests_result 0 0 c.args.world.now c.post_owed.new.self c.lose_all.new.world c.lose_all.result (omega arith) (post_rests law g.W.Stable.saving sealing c.args.world.now c.post_owed.new.self c.args.stables.now c.requires.pairs c.in_ok-post_owed.ensures.posts) c.lose_all.ensures.rests
+    views_then 0 0 c.args.world.now c.post_owed.new.self c.lose_all.new.world (omega arith) (post_suspects law g.W.Stable.saving sealing c.args.world.now c.post_owed.new.self c.args.stables.now c.requires.pairs c.in_ok-post_owed.ensures.posts) c.lose_all.ensures.views
+
+pub returns-in_err-post_owed-clause-views : goal.returns-in_err-post_owed-clause-views
+returns-in_err-post_owed-clause-views g c =
+    subst (λ (w : Worlding _ _). SuspectsNoMore 0 c.args.world.now w) (sym c.in_err-post_owed.ensures.stops.0) (views_none 0 c.args.world.now)
 
 pub returns-clause-closes : goal.returns-clause-closes
 returns-clause-closes g c =

@@ -1,7 +1,7 @@
 use Rattle.std.proofs.Common.{sym, ◌∙◌, subst, arith}
 use Rattle.closing.specs.Closing.{CameTo, Drained, Drains, LeadsTo, ClosingStandsAt, Suspects}
 use Rattle.closing.proofs.Leading.{leads_then}
-use Rattle.closing.proofs.Parts.{keeps_then, not_over, rests_result}
+use Rattle.closing.proofs.Parts.{keeps_then, not_over, views_then}
 use Rattle.closing.proofs.rest.close_by.Goals as goal
 
 pub drain-requires-clause-holds : goal.drain-requires-clause-holds
@@ -13,11 +13,8 @@ returns-clause-keeps g c =
     let sealing = g.B.Body.sealing in
     keeps_then law g.W.Stable.saving sealing c.args.world.now c.suspect.new.world c.drain.new.world c.args.stables.now c.suspect.new.stables c.drain.new.stables c.in_ok-came.ensures.keeps c.drain.ensures.keeps
 
-pub returns-clause-rests : goal.returns-clause-rests
-returns-clause-rests g c =
-    let law = g.A.App.law in
-    let sealing = g.B.Body.sealing in
-    rests_result c.args.view 0 c.args.world.now c.suspect.new.world c.drain.new.world c.drain.result (omega arith) c.in_ok-came.ensures.rests c.drain.ensures.rests
+pub returns-clause-views : goal.returns-clause-views
+returns-clause-views g c = views_then c.args.view 0 c.args.world.now c.suspect.new.world c.drain.new.world (omega arith) c.in_ok-came.ensures.views c.drain.ensures.views
 
 pub returns-clause-closes : goal.returns-clause-closes
 returns-clause-closes g c =

@@ -7,7 +7,7 @@ use Rattle.std.specs.Prelude.{◌/◌}
 use Rattle.closing.specs.Closing.{ClosesIn, EndsBy, ClosingStandsAt, up_in}
 use Rattle.closing.specs.Views.{most_view_of_a_closing, views_of_an_attempt}
 use Rattle.closing.proofs.Leading.{halted_in, leads_then, runs_again}
-use Rattle.closing.proofs.Parts.{ends_few, keeps_then, suspected_more, views_result}
+use Rattle.closing.proofs.Parts.{ends_few, keeps_then, raises_none, raises_then, suspected_more}
 use Rattle.closing.proofs.rest.close_once.Goals as goal
 
 pub members_up-requires : goal.members_up-requires
@@ -21,7 +21,7 @@ returns-in_err-members-clause-closes g c =
 
 pub returns-then-up-needed-clause-views : goal.returns-then-up-needed-clause-views
 returns-then-up-needed-clause-views g c =
-    λ limit h. c.in_ok-clear.ensures.rests.views (limit + views_of_an_attempt) (omega arith) (suspected_more limit (limit + views_of_an_attempt) (past c.args.world.now.journal) (omega arith) h)
+    λ limit h. c.in_ok-clear.ensures.views (limit + views_of_an_attempt) (omega arith) (suspected_more limit (limit + views_of_an_attempt) (past c.args.world.now.journal) (omega arith) h)
 
 pub returns-then-up-needed-clause-closes : goal.returns-then-up-needed-clause-closes
 returns-then-up-needed-clause-closes g c =
@@ -32,7 +32,7 @@ returns-then-up-needed-clause-closes g c =
     let half : c.from-needed.result ≡ c.setup.result.now.controllers / 2 = c.from-needed.ensures in
     let less = c.if-up-needed.true in
     λ kinds holds start s.
-    ends_few law (scene_in sealing c.args.world.now kinds) start c.clear.new.world (runs_again law sealing c.args.world.now c.clear.new.world kinds c.in_ok-clear.ensures.keeps.setup (c.in_ok-clear.ensures.keeps.holds kinds holds)) c.in_ok-clear.ensures.rests.owed c.in_ok-clear.ensures.empty (length c.as_slice-up.result.now) (c.from-needed.result + 1)
+    ends_few law (scene_in sealing c.args.world.now kinds) start c.clear.new.world (runs_again law sealing c.args.world.now c.clear.new.world kinds c.in_ok-clear.ensures.keeps.setup (c.in_ok-clear.ensures.keeps.holds kinds holds)) c.in_ok-clear.ensures.rests c.in_ok-clear.ensures.empty (length c.as_slice-up.result.now) (c.from-needed.result + 1)
     (ap length up_is) (ap (λ n. n + 1) half ∙ ap majority same) less (c.in_ok-clear.ensures.closes kinds holds start s)
 
 pub close_cleared-requires-clause-holds : goal.close_cleared-requires-clause-holds
@@ -40,7 +40,7 @@ close_cleared-requires-clause-holds g c = (c.requires.holds.0, c.in_ok-clear.ens
 
 pub close_cleared-requires-clause-views : goal.close_cleared-requires-clause-views
 close_cleared-requires-clause-views g c =
-    c.in_ok-clear.ensures.rests.views most_view_of_a_closing (omega arith) c.requires.views
+    c.in_ok-clear.ensures.views most_view_of_a_closing (omega arith) c.requires.views
 
 pub returns-clause-keeps : goal.returns-clause-keeps
 returns-clause-keeps g c =
@@ -50,7 +50,13 @@ returns-clause-keeps g c =
 
 pub returns-clause-views : goal.returns-clause-views
 returns-clause-views g c =
-    views_result c.close_cleared.result c.args.world.now c.clear.new.world c.close_cleared.new.world (λ limit h. c.in_ok-clear.ensures.rests.views limit (omega arith) h) c.close_cleared.ensures.views
+    raises_then views_of_an_attempt c.args.world.now c.clear.new.world c.close_cleared.new.world c.in_ok-clear.ensures.views c.close_cleared.ensures.views
+
+pub returns-in_err-clear-clause-views : goal.returns-in_err-clear-clause-views
+returns-in_err-clear-clause-views g c = raises_none views_of_an_attempt c.args.world.now c.clear.new.world c.in_err-clear.ensures.views
+
+pub returns-in_err-members-clause-views : goal.returns-in_err-members-clause-views
+returns-in_err-members-clause-views g c = raises_none views_of_an_attempt c.args.world.now c.clear.new.world c.in_ok-clear.ensures.views
 
 pub returns-clause-closes : goal.returns-clause-closes
 returns-clause-closes g c =

@@ -4,7 +4,7 @@ use Rattle.std.proofs.lemmas.Result.{err_from_is_err_and}
 use Rattle.world.specs.World.{scene_in}
 use Rattle.closing.specs.Closing.{CameTo, Drained, Drains, LeadsTo, ClosingStandsAt, UpBy, up_in}
 use Rattle.closing.proofs.Leading.{leads_then}
-use Rattle.closing.proofs.Parts.{keeps_then, none_waits, not_over, over_came, rests_then, same_stop}
+use Rattle.closing.proofs.Parts.{keeps_then, none_waits, not_over, over_came, views_then, same_stop}
 use Rattle.closing.proofs.rest.drain.Goals as goal
 
 pub drain_first-requires-clause-holds : goal.drain_first-requires-clause-holds
@@ -31,11 +31,13 @@ returns-then-is_over-clause-keeps g c =
     let sealing = g.B.Body.sealing in
     keeps_then law g.W.Stable.saving sealing c.args.world.now c.draining.world c.drain_first.new.world c.args.stables.now c.draining.stables c.drain_first.new.stables c.draining.invariant.keeps c.in_ok-came.ensures.keeps
 
-pub returns-then-is_over-clause-rests : goal.returns-then-is_over-clause-rests
-returns-then-is_over-clause-rests g c =
-    let law = g.A.App.law in
-    let sealing = g.B.Body.sealing in
-    rests_then 0 0 c.args.world.now c.draining.world c.drain_first.new.world (omega arith) c.draining.invariant.rests c.in_ok-came.ensures.rests
+pub returns-then-is_over-clause-views : goal.returns-then-is_over-clause-views
+returns-then-is_over-clause-views g c =
+    views_then 0 0 c.args.world.now c.draining.world c.drain_first.new.world (omega arith) c.draining.invariant.views c.in_ok-came.ensures.views
+
+pub returns-in_err-came-clause-views : goal.returns-in_err-came-clause-views
+returns-in_err-came-clause-views g c =
+    views_then 0 0 c.args.world.now c.draining.world c.drain_first.new.world (omega arith) c.draining.invariant.views c.in_err-came.ensures.views
 
 pub returns-then-is_over-clause-drains : goal.returns-then-is_over-clause-drains
 returns-then-is_over-clause-drains g c =
@@ -52,7 +54,8 @@ draining-preserved g c =
     let rests = not_over c.in_ok-came.came (sym c.is_over.ensures ∙ c.if-is_over.false) in
     record {
       keeps = keeps_then law g.W.Stable.saving sealing c.args.world.now c.draining.world c.drain_first.new.world c.args.stables.now c.draining.stables c.drain_first.new.stables c.draining.invariant.keeps c.in_ok-came.ensures.keeps;
-      rests = rests_then 0 0 c.args.world.now c.draining.world c.drain_first.new.world (omega arith) c.draining.invariant.rests c.in_ok-came.ensures.rests;
+      owed = c.in_ok-came.ensures.rests;
+      views = views_then 0 0 c.args.world.now c.draining.world c.drain_first.new.world (omega arith) c.draining.invariant.views c.in_ok-came.ensures.views;
       drains = leads_then law sealing (Drains c.args.view c.args.quorum.now) (Drains c.args.view c.args.quorum.now) (Drains c.args.view c.args.quorum.now) c.args.world.now c.draining.world c.drain_first.new.world c.draining.invariant.keeps.setup c.draining.invariant.keeps.holds c.draining.invariant.drains (subst (λ x. LeadsTo law sealing (Drains c.args.view c.args.quorum.now) (CameTo (Drains c.args.view c.args.quorum.now) x) c.draining.world c.drain_first.new.world) rests c.in_ok-came.ensures.drains);
       up = subst (λ x. UpBy x (up_in c.draining.world) (up_in c.drain_first.new.world)) rests c.in_ok-came.ensures.up ∙ c.draining.invariant.up;
     }

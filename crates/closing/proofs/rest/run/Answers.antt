@@ -7,7 +7,7 @@ use Rattle.closing.specs.Closing.{ClosesIn, EndsBy, LeadsTo, ClosingStandsAt, Up
 use Rattle.closing.specs.Views.{most_view_of_a_closing, most_view_of_a_script, views_of_an_attempt}
 use Rattle.closing.proofs.Ended.{has_ended}
 use Rattle.closing.proofs.Leading.{leads_then, runs_again}
-use Rattle.closing.proofs.Parts.{closes_first, few_up, keeps_none, keeps_then, stops_by, suspected_more}
+use Rattle.closing.proofs.Parts.{closes_first, few_up, keeps_none, keeps_then, raises_last, raises_none, stops_by, suspected_more, views_none}
 use Rattle.closing.proofs.rest.run.Goals as goal
 
 pub closing-init : goal.closing-init
@@ -17,7 +17,7 @@ closing-init g c =
     record {
       keeps = keeps_none law g.W.Stable.saving sealing c.args.world.now c.args.stables.now c.requires.pairs;
       closes = λ kinds holds start s. s;
-      views = suspected_more most_view_of_a_script (most_view_of_a_script + views_of_an_attempt * (7 - length (up_in c.args.world.now))) (past c.args.world.now.journal) (omega arith) c.requires.views;
+      views = raises_none (views_of_an_attempt * (7 - length (up_in c.args.world.now))) c.args.world.now c.args.world.now (views_none 0 c.args.world.now);
     }
 
 pub close_once-requires-clause-holds : goal.close_once-requires-clause-holds
@@ -25,7 +25,7 @@ close_once-requires-clause-holds g c = (c.requires.holds.0, c.closing.invariant.
 
 pub close_once-requires-clause-views : goal.close_once-requires-clause-views
 close_once-requires-clause-views g c =
-    suspected_more (most_view_of_a_script + views_of_an_attempt * (7 - length (up_in c.closing.world))) most_view_of_a_closing (past c.closing.world.journal) (omega arith) c.closing.invariant.views
+    suspected_more (most_view_of_a_script + views_of_an_attempt * (7 - length (up_in c.closing.world))) most_view_of_a_closing (past c.closing.world.journal) (omega arith) (c.closing.invariant.views most_view_of_a_script c.requires.views)
 
 pub returns-in_err-closed-clause-keeps : goal.returns-in_err-closed-clause-keeps
 returns-in_err-closed-clause-keeps g c =
@@ -67,5 +67,13 @@ closing-preserved g c =
     record {
       keeps = keeps_then law g.W.Stable.saving sealing c.args.world.now c.closing.world c.close_once.new.world c.args.stables.now c.closing.stables c.close_once.new.stables c.closing.invariant.keeps c.in_ok-closed.ensures.keeps;
       closes = leads_then law sealing (ClosesIn Losing) (ClosesIn Losing) (ClosesIn Losing) c.args.world.now c.closing.world c.close_once.new.world c.closing.invariant.keeps.setup c.closing.invariant.keeps.holds c.closing.invariant.closes (subst (λ o. LeadsTo law sealing (ClosesIn Losing) (EndsBy o) c.closing.world c.close_once.new.world) c.in_default.is c.in_ok-closed.ensures.closes);
-      views = suspected_more (most_view_of_a_script + views_of_an_attempt * (7 - u) + views_of_an_attempt) (most_view_of_a_script + views_of_an_attempt * (7 - v)) (past c.close_once.new.world.journal) (omega (arith, less, seven)) (c.in_ok-closed.ensures.views (most_view_of_a_script + views_of_an_attempt * (7 - u)) c.closing.invariant.views);
+      views = λ limit h. suspected_more (limit + views_of_an_attempt * (7 - u) + views_of_an_attempt) (limit + views_of_an_attempt * (7 - v)) (past c.close_once.new.world.journal) (omega (arith, less, seven)) (c.in_ok-closed.ensures.views (limit + views_of_an_attempt * (7 - u)) (c.closing.invariant.views limit h));
     }
+
+pub returns-in_err-closed-clause-views : goal.returns-in_err-closed-clause-views
+returns-in_err-closed-clause-views g c =
+    raises_last (7 - length (up_in c.closing.world)) c.args.world.now c.closing.world c.close_once.new.world (omega arith) c.closing.invariant.views c.in_err-closed.ensures.views
+
+pub returns-in-Some-clause-views : goal.returns-in-Some-clause-views
+returns-in-Some-clause-views g c =
+    raises_last (7 - length (up_in c.closing.world)) c.args.world.now c.closing.world c.close_once.new.world (omega arith) c.closing.invariant.views c.in_ok-closed.ensures.views

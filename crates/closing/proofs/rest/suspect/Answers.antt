@@ -6,7 +6,7 @@ use Rattle.closing.specs.Closing.{CameTo, Drains, LeadsTo, ClosingStandsAt, Susp
 use Rattle.std.proofs.lemmas.List.{drop_all}
 use Rattle.closing.proofs.Lists.{drop_at}
 use Rattle.closing.proofs.Leading.{leads_then}
-use Rattle.closing.proofs.Parts.{keeps_then, not_over, over_came, rests_then, same_stop}
+use Rattle.closing.proofs.Parts.{keeps_then, not_over, over_came, views_then, same_stop}
 use Rattle.closing.proofs.rest.suspect.Goals as goal
 
 pub suspect_next-requires-clause-holds : goal.suspect_next-requires-clause-holds
@@ -35,11 +35,13 @@ returns-then-is_over-clause-keeps g c =
     let sealing = g.B.Body.sealing in
     keeps_then law g.W.Stable.saving sealing c.args.world.now c.suspecting.world c.suspect_next.new.world c.args.stables.now c.suspecting.stables c.suspect_next.new.stables c.suspecting.invariant.keeps c.in_ok-came.ensures.keeps
 
-pub returns-then-is_over-clause-rests : goal.returns-then-is_over-clause-rests
-returns-then-is_over-clause-rests g c =
-    let law = g.A.App.law in
-    let sealing = g.B.Body.sealing in
-    rests_then c.args.view c.args.view c.args.world.now c.suspecting.world c.suspect_next.new.world (omega arith) c.suspecting.invariant.rests c.in_ok-came.ensures.rests
+pub returns-then-is_over-clause-views : goal.returns-then-is_over-clause-views
+returns-then-is_over-clause-views g c =
+    views_then c.args.view c.args.view c.args.world.now c.suspecting.world c.suspect_next.new.world (omega arith) c.suspecting.invariant.views c.in_ok-came.ensures.views
+
+pub returns-in_err-came-clause-views : goal.returns-in_err-came-clause-views
+returns-in_err-came-clause-views g c =
+    views_then c.args.view c.args.view c.args.world.now c.suspecting.world c.suspect_next.new.world (omega arith) c.suspecting.invariant.views c.in_err-came.ensures.views
 
 pub returns-then-is_over-clause-suspects : goal.returns-then-is_over-clause-suspects
 returns-then-is_over-clause-suspects g c =
@@ -60,7 +62,8 @@ suspecting-preserved g c =
     let step = subst (λ l. LeadsTo law sealing (Suspects c.args.view c.args.quorum.now l) (CameTo (Suspects c.args.view c.args.quorum.now behind) c.in_ok-came.came) c.suspecting.world c.suspect_next.new.world) (sym (drop_at c.args.quorum.now c.suspecting.number-index c.suspecting-test.true)) (c.in_ok-came.ensures.suspects c.args.quorum.now behind) in
     record {
       keeps = keeps_then law g.W.Stable.saving sealing c.args.world.now c.suspecting.world c.suspect_next.new.world c.args.stables.now c.suspecting.stables c.suspect_next.new.stables c.suspecting.invariant.keeps c.in_ok-came.ensures.keeps;
-      rests = rests_then c.args.view c.args.view c.args.world.now c.suspecting.world c.suspect_next.new.world (omega arith) c.suspecting.invariant.rests c.in_ok-came.ensures.rests;
+      owed = c.in_ok-came.ensures.rests;
+      views = views_then c.args.view c.args.view c.args.world.now c.suspecting.world c.suspect_next.new.world (omega arith) c.suspecting.invariant.views c.in_ok-came.ensures.views;
       suspects = leads_then law sealing (Suspects c.args.view c.args.quorum.now c.args.quorum.now) (Suspects c.args.view c.args.quorum.now (drop c.suspecting.number-index c.args.quorum.now)) (Suspects c.args.view c.args.quorum.now behind) c.args.world.now c.suspecting.world c.suspect_next.new.world c.suspecting.invariant.keeps.setup c.suspecting.invariant.keeps.holds c.suspecting.invariant.suspects (subst (λ x. LeadsTo law sealing (Suspects c.args.view c.args.quorum.now (drop c.suspecting.number-index c.args.quorum.now)) (CameTo (Suspects c.args.view c.args.quorum.now behind) x) c.suspecting.world c.suspect_next.new.world) rests step);
       up = subst (λ x. UpBy x (up_in c.suspecting.world) (up_in c.suspect_next.new.world)) rests c.in_ok-came.ensures.up ∙ c.suspecting.invariant.up;
     }

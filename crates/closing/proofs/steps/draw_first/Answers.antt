@@ -1,7 +1,9 @@
-use Rattle.std.proofs.Common.{refl, sym, subst}
+use Rattle.std.proofs.Common.{false, refl, sym, subst}
 use Rattle.std.proofs.lemmas.Result.{err_from_is_err_and}
 use Rattle.journal.specs.Actors.{IsActor}
 use Rattle.closing.specs.Closing.{CameTo, Drains}
+use Rattle.journal.specs.declared.journal.Turn.TheVariants.{Draw}
+use Rattle.closing.proofs.Leading.{turn_views}
 use Rattle.closing.proofs.Worlds.{knows_itself}
 use Rattle.closing.proofs.Stepping.{named, draw_cut, draw_leads, draw_up, draw_less}
 use Rattle.closing.proofs.steps.draw_first.Goals as goal
@@ -44,3 +46,11 @@ returns-clause-less g c =
     let knows = knows_itself g.A.App.law in
     let sealing = g.B.Body.sealing in
     draw_less law knows g.W.Stable.saving sealing c.args.world.now c.args.stables.now c.apply.new.self c.apply.new.stables c.requires.rests c.requires.pairs c.args.place c.requires.first c.lawful.ensures.addressed c.in_ok-apply.ensures.applies c.lawful-2.ensures.within
+
+pub returns-in_err-apply-clause-views : goal.returns-in_err-apply-clause-views
+returns-in_err-apply-clause-views g c =
+    turn_views g.B.Body.sealing.size (Draw c.args.place.to 0 false) c.args.world.now c.apply.new.self 0 c.requires.rests (λ most low. tt) c.apply.result c.apply.ensures.applies c.apply.ensures.stops
+
+pub returns-clause-views : goal.returns-clause-views
+returns-clause-views g c =
+    turn_views g.B.Body.sealing.size (Draw c.args.place.to 0 false) c.args.world.now c.apply.new.self 0 c.requires.rests (λ most low. tt) c.apply.result c.apply.ensures.applies c.apply.ensures.stops

@@ -1,3 +1,5 @@
+use Rattle.journal.specs.declared.journal.Turn.TheVariants.{Lose}
+use Rattle.closing.proofs.Leading.{turn_views}
 use Rattle.closing.proofs.Worlds.{knows_itself}
 use Rattle.closing.proofs.Stepping.{lose_closes, lose_drains, lose_up, lose_less}
 use Rattle.closing.proofs.steps.lose_first.Goals as goal
@@ -29,3 +31,7 @@ returns-clause-less g c =
     let knows = knows_itself g.A.App.law in
     let sealing = g.B.Body.sealing in
     lose_less law knows g.W.Stable.saving sealing c.args.world.now c.args.stables.now c.apply-result.new.self c.apply-result.new.stables c.requires.rests c.requires.pairs c.args.place c.requires.first c.lawful.ensures.addressed c.apply-result.result c.apply-result.ensures.applies c.lawful-2.ensures.within
+
+pub returns-clause-views : goal.returns-clause-views
+returns-clause-views g c =
+    turn_views g.B.Body.sealing.size (Lose c.args.place.to 0) c.args.world.now c.apply-result.new.self 0 c.requires.rests (λ most low. tt) c.apply-result.result c.apply-result.ensures.applies c.apply-result.ensures.stops

@@ -2,6 +2,10 @@ use Rattle.std.proofs.Common.{◌<◌, sym, subst}
 use Rattle.std.proofs.lemmas.Result.{err_from_is_err_and}
 use Rattle.world.specs.World.{scene_in}
 use Rattle.closing.specs.Closing.{CameTo, Suspects}
+use Rattle.journal.specs.declared.journal.Actor.TheVariants.{Controller}
+use Rattle.journal.specs.declared.journal.Local.TheVariants.{Suspect}
+use Rattle.journal.specs.declared.journal.Turn.TheVariants.{Local}
+use Rattle.closing.proofs.Leading.{turn_views}
 use Rattle.closing.proofs.Worlds.{knows_itself, up_within}
 use Rattle.closing.proofs.Stepping.{suspect_cut, suspect_leads, suspect_up}
 use Rattle.closing.proofs.steps.suspect_next.Goals as goal
@@ -47,3 +51,11 @@ returns-clause-up g c =
     let sealing = g.B.Body.sealing in
     let there = up_within law (scene_in sealing c.args.world.now c.requires.holds.0) c.args.world.now c.requires.holds.1.run (λ x h. knows x c.requires.holds.0 h) c.args.number c.requires.up in
     suspect_up law knows g.W.Stable.saving sealing c.args.world.now c.args.stables.now c.apply.new.self c.apply.new.stables c.requires.rests c.requires.pairs c.args.view c.args.number there c.in_ok-apply.ensures.applies c.in_ok-apply.ensures.keeps c.came_at.result c.came_at.ensures c.requires.holds.0 c.requires.holds.1 c.requires.up
+
+pub returns-in_err-apply-clause-views : goal.returns-in_err-apply-clause-views
+returns-in_err-apply-clause-views g c =
+    turn_views g.B.Body.sealing.size (Local (Controller c.args.number) (Suspect c.args.view)) c.args.world.now c.apply.new.self c.args.view c.requires.rests (λ most low. low) c.apply.result c.apply.ensures.applies c.apply.ensures.stops
+
+pub returns-clause-views : goal.returns-clause-views
+returns-clause-views g c =
+    turn_views g.B.Body.sealing.size (Local (Controller c.args.number) (Suspect c.args.view)) c.args.world.now c.apply.new.self c.args.view c.requires.rests (λ most low. low) c.apply.result c.apply.ensures.applies c.apply.ensures.stops

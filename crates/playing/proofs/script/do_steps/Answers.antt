@@ -3,8 +3,7 @@ use Rattle.std.proofs.lemmas.Result.{err_from_is_err_and}
 use Rattle.journal.specs.Actors.{IsActor}
 use Rattle.journal.specs.Turns.{turn_actor}
 use Rattle.world.proofs.Acting.{stood_at}
-use Rattle.closing.specs.Views.{most_view_of_a_script}
-use Rattle.playing.specs.Played.{StepSuspectsUpTo}
+use Rattle.closing.specs.Views.{most_view_of_a_script, StepSuspectsUpTo}
 use Rattle.playing.proofs.Following.{keeps_next, stands_last, stands_next, stops_next}
 use Rattle.playing.proofs.Stopping.{all_found}
 use Rattle.playing.proofs.script.do_steps.Goals as goal

@@ -27,7 +27,7 @@ use Rattle.world.proofs.Joining as joining
 use Rattle.world.proofs.Standing.{none_said}
 use Rattle.running.specs.declared.job.Job.{Job}
 use Rattle.running.specs.declared.seated.Served.{Served}
-use Rattle.running.specs.Apart.{steps_of, BeginsAlone, BeginsApart, FollowsApart, IsCutFor}
+use Rattle.running.specs.Apart.{steps_of, BeginsAlone, BeginsApart, FollowsApart, IsBefore, IsCutFor}
 use Rattle.running.specs.Jobs.{IsSeatedIn, owed_at}
 use Rattle.running.specs.Playing.{ServedPlays, SwitchPlays, scene_of}
 use Rattle.running.proofs.Following.{Taken, still}
@@ -165,8 +165,9 @@ module _ {B G A W : Type 0} (law : AppLaw A) (saving : Saving W) (sealing : Seal
     full = subst (λ (o : List (Letter B)). IsFull sealing.size (past s.job.place.seen) o bytes letters) (sym (owed_is plays steps journal a jobs number s) ∙ same ∙ sym (owes a there)) full;
   }
 
-  pub cut_short : (bytes letters : ℕ) (a : Actor) → IsCutFor scene (results_in members) bytes letters (past journal) a → BeginsApart scene (results_in members) steps bytes letters (past journal)
-  cut_short bytes letters a short = record { each = begins; stuck = a; cut = short }
+  pub cut_short : (bytes letters : ℕ) (a : Actor) → IsCutFor scene (results_in members) bytes letters (past journal) a → ((b : Actor) → IsActor setup b → IsBefore b a → owed b ≡ []) →
+      BeginsApart scene (results_in members) steps bytes letters (past journal)
+  cut_short bytes letters a short first = record { each = begins; stuck = a; cut = short; first = λ b there before. owes b there ∙ first b there before }
 
   -- the world that takes it over, where nothing is owed
   pub played : IsSetup setup → given_by kinds ≤ most_commands → ((a : Actor) → IsActor setup a → owed a ≡ []) → IsPlayed law sealing (resting_world setup journal members states) kinds

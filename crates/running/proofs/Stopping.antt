@@ -1,5 +1,5 @@
 -- Which cause counts, of those that tasks stopped for.
-use Rattle.std.proofs.Common.{◌≡◌, ◌⊎◌, inl, inr, ℕ, zero, suc, List, [], ◌∷◌, refl, sym, ◌∙◌, ap}
+use Rattle.std.proofs.Common.{◌≡◌, ◌<◌, ◌⊎◌, inl, inr, ℕ, zero, suc, List, [], ◌∷◌, refl, sym, ◌∙◌, ap, arith}
 use Rattle.std.specs.Prelude.{Option, Some, None, slice_get}
 use Rattle.journal.specs.declared.wire.Stop.{Stop}
 use Rattle.journal.specs.declared.wire.Stop.TheVariants.{OutOfMemory, JournalFull}
@@ -22,12 +22,18 @@ no_stop (Some (JournalFull bytes letters)) None is = absurd (let h = is in cc)
 no_stop (Some (JournalFull bytes letters)) (Some OutOfMemory) is = absurd (let h = is in cc)
 no_stop (Some (JournalFull bytes letters)) (Some (JournalFull b l)) is = absurd (let h = is in cc)
 
-which : (first next : Option Stop) (stop : Stop) → worst first next ≡ Some stop → (first ≡ Some stop) ⊎ (next ≡ Some stop)
-which None next stop is = inr is
-which (Some OutOfMemory) next stop is = inl is
-which (Some (JournalFull bytes letters)) None stop is = inl is
-which (Some (JournalFull bytes letters)) (Some OutOfMemory) stop is = inr is
-which (Some (JournalFull bytes letters)) (Some (JournalFull b l)) stop is = inl is
+-- nothing stopped yet
+abbrev pub going_on : Option Stop
+going_on = None
+
+-- of two, the first that met a full journal counts, where none was short of memory
+which : (first next : Option Stop) (bytes letters : ℕ) → worst first next ≡ Some (JournalFull bytes letters) →
+    (first ≡ Some (JournalFull bytes letters)) ⊎ ((first ≡ None) × (next ≡ Some (JournalFull bytes letters)))
+which None next bytes letters is = inr (refl, is)
+which (Some OutOfMemory) next bytes letters is = inl is
+which (Some (JournalFull b l)) None bytes letters is = inl is
+which (Some (JournalFull b l)) (Some OutOfMemory) bytes letters is = absurd (let h = is in cc)
+which (Some (JournalFull b l)) (Some (JournalFull c m)) bytes letters is = inl is
 
 module _ {B G P : Type 0} where
   -- none of these found no memory
@@ -58,21 +64,31 @@ module _ {B G P : Type 0} where
       let same : u ≡ t = cc in ap (λ (x : Task B P G). x.stop) (sym same) ∙ (no_stop first u.stop (none_first (worst first u.stop) tasks is)).1
   none_stopped first (u ∷ tasks) is (suc i) t found = none_stopped (worst first u.stop) tasks is i t found
 
-  -- one of a list stopped for this
-  pub record HasStopped (stop : Stop) (tasks : List (Task B P G)) : Type 0 where
+  -- the first of a list that stopped met a full journal, with these sums
+  pub record HasStopped (bytes letters : ℕ) (tasks : List (Task B P G)) : Type 0 where
     pub number : ℕ
     pub task : Task B P G
     pub stands : slice_get tasks number ≡ Some task
-    pub stop_is : task.stop ≡ Some stop
+    pub stop_is : task.stop ≡ Some (JournalFull bytes letters)
+    pub earlier : (i : ℕ) → i < number → (t : Task B P G) → slice_get tasks i ≡ Some t → t.stop ≡ None
 
-  pub who_stopped : (first : Option Stop) (tasks : List (Task B P G)) (stop : Stop) → first_stop first tasks ≡ Some stop → (first ≡ Some stop) ⊎ HasStopped stop tasks
-  who_stopped first [] stop is = inl is
-  who_stopped first (u ∷ tasks) stop is = by_rest (who_stopped (worst first u.stop) tasks stop is)
+  pub who_stopped : (first : Option Stop) (tasks : List (Task B P G)) (bytes letters : ℕ) → first_stop first tasks ≡ Some (JournalFull bytes letters) →
+      (first ≡ Some (JournalFull bytes letters)) ⊎ ((first ≡ None) × HasStopped bytes letters tasks)
+  who_stopped first [] bytes letters is = inl is
+  who_stopped first (u ∷ tasks) bytes letters is = by_rest (who_stopped (worst first u.stop) tasks bytes letters is)
     where
-      by_worst : (first ≡ Some stop) ⊎ (u.stop ≡ Some stop) → (first ≡ Some stop) ⊎ HasStopped stop (u ∷ tasks)
+      by_worst : (first ≡ Some (JournalFull bytes letters)) ⊎ ((first ≡ None) × (u.stop ≡ Some (JournalFull bytes letters))) →
+          (first ≡ Some (JournalFull bytes letters)) ⊎ ((first ≡ None) × HasStopped bytes letters (u ∷ tasks))
       by_worst (inl its) = inl its
-      by_worst (inr its) = inr (record { number = 0; task = u; stands = refl; stop_is = its })
+      by_worst (inr its) = inr (its.0, record { number = 0; task = u; stands = refl; stop_is = its.1; earlier = λ i less t found. absurd (omega (arith, less)) })
 
-      by_rest : (worst first u.stop ≡ Some stop) ⊎ HasStopped stop tasks → (first ≡ Some stop) ⊎ HasStopped stop (u ∷ tasks)
-      by_rest (inl its) = by_worst (which first u.stop stop its)
-      by_rest (inr h) = inr (record { number = suc h.number; task = h.task; stands = h.stands; stop_is = h.stop_is })
+      its_earlier : u.stop ≡ None → (h : HasStopped bytes letters tasks) (i : ℕ) → i < suc h.number → (t : Task B P G) → slice_get (u ∷ tasks) i ≡ Some t → t.stop ≡ None
+      its_earlier none h zero less t found = let same : u ≡ t = cc in ap (λ (x : Task B P G). x.stop) (sym same) ∙ none
+      its_earlier none h (suc i) less t found = h.earlier i (omega (arith, less)) t found
+
+      by_rest : (worst first u.stop ≡ Some (JournalFull bytes letters)) ⊎ ((worst first u.stop ≡ None) × HasStopped bytes letters tasks) →
+          (first ≡ Some (JournalFull bytes letters)) ⊎ ((first ≡ None) × HasStopped bytes letters (u ∷ tasks))
+      by_rest (inl its) = by_worst (which first u.stop bytes letters its)
+      by_rest (inr (none, h)) =
+          let both = no_stop first u.stop none in
+          inr (both.0, record { number = suc h.number; task = h.task; stands = h.stands; stop_is = h.stop_is; earlier = its_earlier both.1 h })

@@ -11,6 +11,7 @@ use Rattle.journal.specs.declared.journal.JournalEntry.{JournalEntry}
 use Rattle.journal.specs.declared.journal.Turn.{Turn}
 use Rattle.journal.specs.declared.wire.Stop.{Stop}
 use Rattle.journal.specs.declared.wire.Stop.TheVariants.{OutOfMemory, JournalFull}
+use Rattle.journal.specs.declared.journal.Letter.{Letter}
 use Rattle.journal.specs.Actors.{actor_of, IsActor}
 use Rattle.journal.specs.Pool.{past}
 use Rattle.journal.specs.Stables.{Saving}
@@ -29,7 +30,7 @@ use Rattle.running.specs.declared.job.Job.{Job}
 use Rattle.running.specs.declared.run.Played.{Played}
 use Rattle.running.specs.declared.seated.Served.{Served}
 use Rattle.running.specs.declared.task.Task.{Task}
-use Rattle.running.specs.Apart.{BeginsApart, FollowsApart, IsCutFor}
+use Rattle.running.specs.Apart.{BeginsApart, FollowsApart, IsBefore, IsCutFor}
 use Rattle.running.specs.Jobs.{HasPlayedSome, EndsAs, IsAtEnd, IsSeatedIn}
 use Rattle.running.specs.Playing.{ServedPlays, SwitchPlays, scene_of}
 use Rattle.running.specs.Runs.{actors_up_to, controller_of, first_stop, seat_place_of, player_of, seated, served, stable_of, task_of}
@@ -42,7 +43,7 @@ use Rattle.world.proofs.Starts.{mapped_at, mapped_length}
 use Rattle.running.proofs.Lists.{at_number, by_number, drop_mapped, got_behind, got_map, got_zip, map_long, same_behind, zip_first, zip_second}
 use Rattle.running.proofs.Named.{plus_none, controller_at, all_controllers, all_switches, named_each}
 use Rattle.running.proofs.Starting.{job_fresh, served_fresh, switch_fresh}
-use Rattle.running.proofs.Stopping.{AreCalm, HasStopped, are_calm, none_first, none_stopped, was_calm, who_stopped}
+use Rattle.running.proofs.Stopping.{going_on, AreCalm, HasStopped, are_calm, none_first, none_stopped, was_calm, who_stopped}
 
 -- players at the places of a new board
 module _ (G : Type 0) {B A W : Type 0} (law : AppLaw A) (saving : Saving W) (sealing : Sealing B) (setup : Setup) (kinds : List ℕ) (steps : List Turn) (id : TableId)
@@ -374,27 +375,38 @@ module _ (G : Type 0) {B A W : Type 0} (law : AppLaw A) (saving : Saving W) (sea
       pub left_legal : IsLeftLegal law saving sealing setup kinds controllers stables stables_after played
       left_legal = record { legal = legal; within = h.within; members = left_members; paired = left_paired }
 
+      -- one that did all of its steps owes nothing
+      none_owed : {P : Type 0} (plays : List _ → P → List _ → Type 0) (job : Job B P G) (o : Option Stop) → o ≡ None → EndsAs plays sealing.size steps job o → job.owed ≡ []
+      none_owed plays job None is ends = ends.rests
+      none_owed plays job (Some stop) is ends = absurd (let h = is in cc)
+
+      abbrev Owed : Actor → List (Letter B)
+      Owed a = joined.owed law saving sealing setup kinds steps wire member_jobs other_jobs started h.orderly named jobs_long other_jobs_long joins_controllers switch_seated a
+
+      member_owes_none : (c : ℕ) → c < setup.controllers → ((t : Task B (Served A W) G) → slice_get h.members c ≡ Some t → t.stop ≡ None) → Owed (actor.Controller c) ≡ []
+      unfolding controller_seated
+      member_owes_none c there done =
+          let s = served_at c there in
+          let start : Served A W = record { controller = s.controller; stable = s.stable } in
+          let e = controller_ends c there s in
+          let plays = ServedPlays law saving sealing setup kinds (actor.Controller c) start in
+          joined.owed_is plays steps wire (actor.Controller c) member_jobs c (controller_seated c there s) ∙
+          none_owed plays e.task.job e.task.stop (done e.task e.stands) (e.ran.ends setup kinds start (job_fresh plays steps id (actor.Controller c) start s.plays))
+
+      other_owes_none : (s : ℕ) → s < length setup.ports → ((t : Task B SwitchState G) → slice_get h.others s ≡ Some t → t.stop ≡ None) → Owed (actor.Switch s) ≡ []
+      unfolding switch_seated
+      other_owes_none s there done =
+          let start = starting_switch s setup in
+          let e = switch_ends s there in
+          let plays = SwitchPlays sealing setup kinds (actor.Switch s) start in
+          joined.owed_is plays steps wire (actor.Switch s) other_jobs s (switch_seated s there) ∙
+          none_owed plays e.task.job e.task.stop (done e.task e.stands) (e.ran.ends setup kinds start (job_fresh plays steps id (actor.Switch s) start (switch_fresh sealing setup kinds s)))
+
       -- where each did all of its steps
       module _ (members_done : (i : ℕ) (t : Task B (Served A W) G) → slice_get h.members i ≡ Some t → t.stop ≡ None) (others_done : (i : ℕ) (t : Task B SwitchState G) → slice_get h.others i ≡ Some t → t.stop ≡ None) where
-        none_owed : {P : Type 0} (plays : List _ → P → List _ → Type 0) (job : Job B P G) (o : Option Stop) → o ≡ None → EndsAs plays sealing.size steps job o → job.owed ≡ []
-        none_owed plays job None is ends = ends.rests
-        none_owed plays job (Some stop) is ends = absurd (let h = is in cc)
-
-        owes_none : (a : Actor) → IsActor setup a → joined.owed law saving sealing setup kinds steps wire member_jobs other_jobs started h.orderly named jobs_long other_jobs_long joins_controllers switch_seated a ≡ []
-        unfolding controller_seated switch_seated
-        owes_none (actor.Controller c) there =
-            let s = served_at c there in
-            let start : Served A W = record { controller = s.controller; stable = s.stable } in
-            let e = controller_ends c there s in
-            let plays = ServedPlays law saving sealing setup kinds (actor.Controller c) start in
-            joined.owed_is plays steps wire (actor.Controller c) member_jobs c (controller_seated c there s) ∙
-            none_owed plays e.task.job e.task.stop (members_done c e.task e.stands) (e.ran.ends setup kinds start (job_fresh plays steps id (actor.Controller c) start s.plays))
-        owes_none (actor.Switch s) there =
-            let start = starting_switch s setup in
-            let e = switch_ends s there in
-            let plays = SwitchPlays sealing setup kinds (actor.Switch s) start in
-            joined.owed_is plays steps wire (actor.Switch s) other_jobs s (switch_seated s there) ∙
-            none_owed plays e.task.job e.task.stop (others_done s e.task e.stands) (e.ran.ends setup kinds start (job_fresh plays steps id (actor.Switch s) start (switch_fresh sealing setup kinds s)))
+        owes_none : (a : Actor) → IsActor setup a → Owed a ≡ []
+        owes_none (actor.Controller c) there = member_owes_none c there (members_done c)
+        owes_none (actor.Switch s) there = other_owes_none s there (others_done s)
 
         pub has_played : HasPlayedApart law saving sealing setup kinds steps controllers stables stables_after played
         has_played = record {
@@ -415,11 +427,12 @@ module _ (G : Type 0) {B A W : Type 0} (law : AppLaw A) (saving : Saving W) (sea
         full_at plays job (Some (JournalFull b l)) is ends = let one : b ≡ bytes = cc in let two : l ≡ letters = cc in subst (λ n. IsFull sealing.size (past job.place.seen) job.owed n letters) one (subst (λ n. IsFull sealing.size (past job.place.seen) job.owed b n) two ends.full)
 
         cut_short : (a : Actor) → IsCutFor (scene_of sealing setup kinds) (results_in (map (λ j. j.player.controller) member_jobs)) bytes letters (past wire) a →
+            ((b : Actor) → IsActor setup b → IsBefore b a → Owed b ≡ []) →
             BeginsApart (scene_of sealing setup kinds) (results_in played.controllers.items) steps bytes letters (past wire)
-        cut_short a cut = subst (λ (cs : List (Controlling A)). BeginsApart (scene_of sealing setup kinds) (results_in cs) steps bytes letters (past wire)) members_are
-            (joined.cut_short law saving sealing setup kinds steps wire member_jobs other_jobs started h.orderly named jobs_long other_jobs_long joins_controllers switch_seated bytes letters a cut)
+        cut_short a cut first = subst (λ (cs : List (Controlling A)). BeginsApart (scene_of sealing setup kinds) (results_in cs) steps bytes letters (past wire)) members_are
+            (joined.cut_short law saving sealing setup kinds steps wire member_jobs other_jobs started h.orderly named jobs_long other_jobs_long joins_controllers switch_seated bytes letters a cut first)
 
-        pub member_stuck : HasStopped (JournalFull bytes letters) h.members → BeginsApart (scene_of sealing setup kinds) (results_in played.controllers.items) steps bytes letters (past wire)
+        pub member_stuck : HasStopped bytes letters h.members → BeginsApart (scene_of sealing setup kinds) (results_in played.controllers.items) steps bytes letters (past wire)
         unfolding controller_seated
         member_stuck st =
             let within = slice_get_within h.members st.number st.task st.stands in
@@ -435,10 +448,15 @@ module _ (G : Type 0) {B A W : Type 0} (law : AppLaw A) (saving : Saving W) (sea
             there (controller_seated c there s) refl
             (full_at plays e.task.job e.task.stop (ap (λ (t : Task B (Served A W) G). t.stop) (some_is st.task e.task (sym st.stands ∙ e.stands)) ∙ st.stop_is)
             (e.ran.ends setup kinds start (job_fresh plays steps id (actor.Controller c) start s.plays))))
+            its_first
+          where
+            its_first : (b : Actor) → IsActor setup b → IsBefore b (actor.Controller st.number) → Owed b ≡ []
+            its_first (actor.Controller d) there before = member_owes_none d there (st.earlier d before)
+            its_first (actor.Switch s) there before = absurd before
 
-        pub other_stuck : HasStopped (JournalFull bytes letters) h.others → BeginsApart (scene_of sealing setup kinds) (results_in played.controllers.items) steps bytes letters (past wire)
+        pub other_stuck : first_stop None h.members ≡ None → HasStopped bytes letters h.others → BeginsApart (scene_of sealing setup kinds) (results_in played.controllers.items) steps bytes letters (past wire)
         unfolding switch_seated
-        other_stuck st =
+        other_stuck none st =
             let within = slice_get_within h.others st.number st.task st.stands in
             let same = others_same in
             let s = st.number in
@@ -451,6 +469,11 @@ module _ (G : Type 0) {B A W : Type 0} (law : AppLaw A) (saving : Saving W) (sea
             there (switch_seated s there) refl
             (full_at plays e.task.job e.task.stop (ap (λ (t : Task B SwitchState G). t.stop) (some_is st.task e.task (sym st.stands ∙ e.stands)) ∙ st.stop_is)
             (e.ran.ends setup kinds start (job_fresh plays steps id (actor.Switch s) start (switch_fresh sealing setup kinds s)))))
+            its_first
+          where
+            its_first : (b : Actor) → IsActor setup b → IsBefore b (actor.Switch st.number) → Owed b ≡ []
+            its_first (actor.Controller d) there before = member_owes_none d there (none_stopped None h.members none d)
+            its_first (actor.Switch t) there before = other_owes_none t there (st.earlier t before)
 
     -- the answer of the call
     pub none_stops : stop ≡ None → HasPlayedApart law saving sealing setup kinds steps controllers stables stables_after played
@@ -463,7 +486,7 @@ module _ (G : Type 0) {B A W : Type 0} (law : AppLaw A) (saving : Saving W) (sea
 
     pub some_stops : (why : Stop) → stop ≡ Some why → HaltsApart law saving sealing setup kinds steps controllers stables stables_after played why
     some_stops OutOfMemory is = left_paired
-    some_stops (JournalFull bytes letters) is = (left_legal members_calm others_calm, by_who (who_stopped (first_stop None h.members) h.others (JournalFull bytes letters) its))
+    some_stops (JournalFull bytes letters) is = (left_legal members_calm others_calm, by_who (who_stopped (first_stop None h.members) h.others bytes letters its))
       where
         its : first_stop (first_stop None h.members) h.others ≡ Some (JournalFull bytes letters)
         its = sym h.stop_is ∙ is
@@ -477,12 +500,12 @@ module _ (G : Type 0) {B A W : Type 0} (law : AppLaw A) (saving : Saving W) (sea
         others_calm : AreCalm h.others
         others_calm = are_calm (first_stop None h.members) h.others calm
 
-        by_member : (None ≡ Some (JournalFull bytes letters)) ⊎ HasStopped (JournalFull bytes letters) h.members →
+        by_member : (going_on ≡ Some (JournalFull bytes letters)) ⊎ ((going_on ≡ None) × HasStopped bytes letters h.members) →
             BeginsApart (scene_of sealing setup kinds) (results_in played.controllers.items) steps bytes letters (past wire)
         by_member (inl never) = absurd (let e = never in cc)
-        by_member (inr st) = member_stuck members_calm others_calm bytes letters st
+        by_member (inr (same, st)) = member_stuck members_calm others_calm bytes letters st
 
-        by_who : (first_stop None h.members ≡ Some (JournalFull bytes letters)) ⊎ HasStopped (JournalFull bytes letters) h.others →
+        by_who : (first_stop None h.members ≡ Some (JournalFull bytes letters)) ⊎ ((first_stop None h.members ≡ None) × HasStopped bytes letters h.others) →
             BeginsApart (scene_of sealing setup kinds) (results_in played.controllers.items) steps bytes letters (past wire)
-        by_who (inl first) = by_member (who_stopped None h.members (JournalFull bytes letters) first)
-        by_who (inr st) = other_stuck members_calm others_calm bytes letters st
+        by_who (inl first) = by_member (who_stopped None h.members bytes letters first)
+        by_who (inr (none, st)) = other_stuck members_calm others_calm bytes letters none st

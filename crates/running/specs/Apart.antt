@@ -1,6 +1,7 @@
 -- Which journals a script gives where each actor does its own steps, in a thread of its own. Pasts have their newest entry first.
-use Rattle.std.specs.Prelude.{◌≡◌, ℕ, true, ◌&&◌, List, [], ◌∷◌, ◌++◌, length, filter, count_by, reverse, slice_get, Some}
+use Rattle.std.specs.Prelude.{◌≡◌, ◌<◌, ℕ, true, ◌&&◌, List, [], ◌∷◌, ◌++◌, length, filter, count_by, reverse, slice_get, Some}
 use Rattle.journal.specs.declared.journal.Actor.{Actor}
+use Rattle.journal.specs.declared.journal.Actor.TheVariants as actor
 use Rattle.journal.specs.declared.journal.JournalEntry.{JournalEntry}
 use Rattle.journal.specs.declared.journal.JournalEntry.TheVariants.{Post, Refused}
 use Rattle.journal.specs.declared.journal.SaveResult.{SaveResult}
@@ -59,11 +60,20 @@ pub record IsCutFor {B : Type 0} (scene : Scene B) (results : List (List SaveRes
   pub its : part a entries ≡ part a met
   pub full : IsFull scene.sealing.size met (owed_of scene results a entries) bytes letters
 
--- a script that is cut short where an outbox met the limits of the journal
+-- controllers come before switches, and each by number
+abbrev pub IsBefore : Actor → Actor → Type 0
+IsBefore (actor.Controller c) (actor.Controller d) = c < d
+IsBefore (actor.Controller c) (actor.Switch s) = Unit {0}
+IsBefore (actor.Switch s) (actor.Controller c) = ⊥
+IsBefore (actor.Switch s) (actor.Switch t) = s < t
+
+-- a script that is cut short where an outbox met the limits of the journal: that of the first actor that is stuck. Those before it
+-- owe nothing
 pub record BeginsApart {B : Type 0} (scene : Scene B) (results : List (List SaveResult)) (steps : List Turn) (bytes letters : ℕ) (entries : List (JournalEntry B)) : Type 0 where
   pub each : (a : Actor) → IsActor scene.setup a → BeginsAlone scene results steps entries a
   pub stuck : Actor
   pub cut : IsCutFor scene results bytes letters entries stuck
+  pub first : (a : Actor) → IsActor scene.setup a → IsBefore a stuck → owed_of scene results a entries ≡ []
 
 -- a run that is cut short where an outbox met the limits of the journal, in the script or in the closing
 pub data IsBegunApart {B : Type 0} (scene : Scene B) (results : List (List SaveResult)) (steps : List Turn) (bytes letters : ℕ) : List (JournalEntry B) → Type 0 where

@@ -1,5 +1,5 @@
 -- How a call that makes something of a report takes it, and how it ends.
-use Rattle.std.specs.Prelude.{◌≡◌, ◌<◌, ◌≤◌, ℕ, List, ◌++◌, length, Option, Ok, Err, codes}
+use Rattle.std.specs.Prelude.{◌≡◌, ◌<◌, ◌≤◌, ◌+◌, ℕ, List, ◌++◌, length, Option, Ok, Err, codes}
 use Rattle.std.specs.Io.KnownBytes.{Consumes, IsAtEnd}
 use Rattle.report.specs.Reading.{report_at}
 use Rattle.report.specs.Report.{newline}
@@ -24,9 +24,10 @@ AreTaken bytes (Ended Unread) = ⊥
 AreTaken bytes (Ended Usage) = ⊥
 AreTaken bytes (Ended (Made text)) = ⊥
 
--- a source was read to its end, or past the most that a report has
-abbrev pub IsReadOut : List ℕ → Option (List ℕ) → Type 0
-IsReadOut bytes rest = length bytes ≤ REPORT_LIMIT → IsAtEnd rest
+-- a source was read to its end, or one byte past the most that a report has
+pub record IsReadOut (bytes : List ℕ) (rest : Option (List ℕ)) : Type 0 where
+  pub most : length bytes ≤ REPORT_LIMIT + 1
+  pub ends : length bytes ≤ REPORT_LIMIT → IsAtEnd rest
 
 -- bytes were read out of a source, and are this
 abbrev pub IsTakenAs : Option (List ℕ) → Option (List ℕ) → Taken → Type 0
@@ -40,6 +41,16 @@ IsTaken left rest unread (Ended (Differs line)) = IsTakenAs left rest (Ended (Di
 IsTaken left rest unread (Ended TooLarge) = IsTakenAs left rest (Ended TooLarge)
 IsTaken left rest unread (Ended Usage) = ⊥
 IsTaken left rest unread (Ended (Made text)) = ⊥
+
+-- a claim on an ending that tells of no read that failed
+abbrev pub IfServed : Ending → Type 0 → Type 0
+IfServed Unread claim = Unit {0}
+IfServed _ claim = claim
+
+-- and on what was taken
+abbrev pub IfRead : Taken → Type 0 → Type 0
+IfRead (Told told) claim = claim
+IfRead (Ended ending) claim = IfServed ending claim
 
 -- The end of a call, of which `refused` says that its words are not accepted, and `makes` what it makes of a report
 abbrev pub EndsCall : Type 0 → (Record → List ℕ → Type 0) → Option (List ℕ) → Option (List ℕ) → Type 0 → Ending → Type 0

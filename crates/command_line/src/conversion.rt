@@ -1,8 +1,10 @@
 //! A call that makes something of a report: how it takes the report, and how it ends.
-ghost use Rattle.std.specs.Prelude.{◌≡◌, ◌≢◌, IfOk};
+ghost use Rattle.std.specs.Prelude.{◌≡◌, ◌≢◌, [], ◌∷◌, Contains, IfOk, IsOk, OnErr};
 ghost use Rattle.std.specs.Io.KnownBytes.{Appends};
 ghost use Rattle.journal.specs.Causes.{Rose};
+ghost use Rattle.streams.specs.Fronts.{AppendsFront};
 ghost use Rattle.command_line.specs.Conversion as call;
+ghost use Rattle.command_line.specs.declared.conversion.Ending.TheVariants as endings;
 ghost use Rattle.command_line.specs.Lines.{text_bytes};
 
 use crate::status::{NO_MEMORY, WRITE_FAILED};
@@ -35,9 +37,11 @@ pub enum Taken {
     Ended(Ending),
 }
 
-/// What a source gives.
+/// What a source gives. No refused read is tried again.
 pub fn take_report<S: Source>(alloc: Global, source: &mut S) -> Result<Taken, AllocError>
-    ensures { IfOk result (call.IsTaken (S.left source.old) (S.left source.new) (Rose (S.faults source.old) (S.faults source.new))) }
+    ensures taken { IfOk result (call.IsTaken (S.left source.old) (S.left source.new) (Rose (S.faults source.old) (S.faults source.new))) }
+    ensures every_read { IfOk result (λ taken. call.IfRead taken (S.faults source.new ≡ S.faults source.old)) }
+    ensures memory { OnErr result (S.faults source.new ≡ S.faults source.old) }
 {
     match read_input(alloc, source, REPORT_LIMIT) {
         Ok(bytes) => taken_bytes(alloc, bytes.as_slice()),
@@ -46,12 +50,16 @@ pub fn take_report<S: Source>(alloc: Global, source: &mut S) -> Result<Taken, Al
     }
 }
 
-/// Writes the text of an ending, and answers the status.
+/// Writes the text of an ending, and answers the status. No refused write is tried again, and one that failed leaves a front of
+/// the text. That the source failed takes no memory to tell.
 pub fn end_call<K: Sink>(alloc: Global, ending: Ending, usage: &'static [u8], sink: &mut K) -> u8
     ensures told { result ≢ 5 → result ≢ 6 → (result ≡ call.status_of ending)
         × Appends (K.taken sink.old) (K.taken sink.new) (call.ending_text usage.now ending) }
     ensures unwritten { result ≡ 5 → Rose (K.faults sink.old) (K.faults sink.new) }
+    ensures front { result ≡ 5 → AppendsFront (K.taken sink.old) (K.taken sink.new) (call.ending_text usage.now ending) }
+    ensures every_write { result ≢ 5 → K.faults sink.new ≡ K.faults sink.old }
     ensures memory { result ≡ 6 → sink.new ≡ sink.old }
+    ensures unread { ending ≡ endings.Unread → Contains (4 ∷ 5 ∷ []) result }
 {
     let status = ending.status();
     let Ok(text) = ending.into_text(alloc, usage) else {
@@ -94,7 +102,8 @@ impl Ending {
     /// What is written. Only what was made and a line that differs take memory.
     #[tactic(auto, unfolding(crate::specs::Conversion::size_line))]
     fn into_text(self, alloc: Global, usage: &'static [u8]) -> Result<Text, AllocError>
-        ensures { IfOk result (λ text. text_bytes text ≡ call.ending_text usage.now self) }
+        ensures text { IfOk result (λ text. text_bytes text ≡ call.ending_text usage.now self) }
+        ensures unread { self ≡ endings.Unread → IsOk result }
     {
         match self {
             Ending::Made(text) => Ok(Text::Own(text)),

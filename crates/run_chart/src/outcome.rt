@@ -1,7 +1,8 @@
 //! How a call ends, and what it writes.
-ghost use Rattle.std.specs.Prelude.{◌≡◌, ◌≢◌, map, string_bytes, IfOk};
+ghost use Rattle.std.specs.Prelude.{◌≡◌, ◌≢◌, map, string_bytes, IfOk, OnErr};
 ghost use Rattle.std.specs.Io.KnownBytes.{Appends};
 ghost use Rattle.journal.specs.Causes.{Rose};
+ghost use Rattle.streams.specs.Fronts.{AppendsFront};
 ghost use Rattle.command_line.specs.Conversion as call;
 ghost use Rattle.command_line.specs.declared.conversion.Ending.{Ending};
 ghost use Rattle.run_chart.specs.Outcome as out;
@@ -31,6 +32,15 @@ pub fn chart<S: Source, K: Sink>(
         × Appends (K.taken sink.old) (K.taken sink.new) (call.ending_text out.chart_usage_line ending) }
     ensures unwritten { result ≡ 5 → Rose (K.faults sink.old) (K.faults sink.new) }
     ensures memory { result ≡ 6 → sink.new ≡ sink.old }
+
+    // Where a write failed, the sink has a front of such a text.
+    ensures cut { result ≡ 5 → (ending : Ending)
+        × out.EndsChart (map string_bytes words.now) (S.left source.old) (S.left source.new) (Rose (S.faults source.old) (S.faults source.new)) ending
+        × AppendsFront (K.taken sink.old) (K.taken sink.new) (call.ending_text out.chart_usage_line ending) }
+
+    // A call that failed is not tried again.
+    ensures every_write { result ≢ 5 → K.faults sink.new ≡ K.faults sink.old }
+    ensures every_read { result ≢ 4 → result ≢ 5 → S.faults source.new ≡ S.faults source.old }
 {
     match outcome(alloc, words, source) {
         Ok(ending) => end_call(alloc, ending, USAGE, sink),
@@ -40,7 +50,9 @@ pub fn chart<S: Source, K: Sink>(
 
 /// How a call with these words ends, before anything is written.
 fn outcome<S: Source>(alloc: Global, words: &[String], source: &mut S) -> Result<Ending, AllocError>
-    ensures { IfOk result (out.EndsChart (map string_bytes words.now) (S.left source.old) (S.left source.new) (Rose (S.faults source.old) (S.faults source.new))) }
+    ensures ends { IfOk result (out.EndsChart (map string_bytes words.now) (S.left source.old) (S.left source.new) (Rose (S.faults source.old) (S.faults source.new))) }
+    ensures every_read { IfOk result (λ ending. call.IfServed ending (S.faults source.new ≡ S.faults source.old)) }
+    ensures memory { OnErr result (S.faults source.new ≡ S.faults source.old) }
 {
     let Some(window) = window_of(words) else {
         return Ok(Ending::Usage);

@@ -25,8 +25,9 @@ use Rattle.playing.specs.Manners.{Manner}
 use Rattle.command_line.specs.Words.{job_of}
 use Rattle.audit.specs.Audit.{differs}
 use Rattle.top_call.specs.Audited.{report_limit}
-use Rattle.top_call.specs.Outcome.{Answers, Served, Write_failed, No_memory, IsReadAndWritten, Outcome, IsUnserved, IsAudit, IsOfFourNumbers, IsAsked, Of_bytes, Of_numbers, AsksFor, Its_bytes, Its_numbers, IsComplete, audit_status, manner_of, service_for}
+use Rattle.top_call.specs.Outcome.{Answers, Served, Write_failed, No_memory, IsReadAndWritten, IsReadOf, Outcome, IsUnserved, IsAudit, IsOfFourNumbers, IsAsked, Of_bytes, Of_numbers, AsksFor, Its_bytes, Its_numbers, IsComplete, audit_status, manner_of, service_for}
 use Rattle.top_call.specs.Outcome as outcome
+use Rattle.top_call.proofs.Streams.{read_any, read_as, what_written}
 use Rattle.top_call.specs.Runs.{AreCalm, AreSaved, HasRun, IsInLimits, IsLeft, IsOverfull, IsRunUnposted, StablesTell, Telling, scene_for}
 
 -- the words of a run, and words that are not accepted, are none of an audit
@@ -206,15 +207,20 @@ pub complete : (kinds : List ℕ) (saves : Telling) (words : List (List ℕ)) (u
     (calm → (scene : Scene (List ℕ)) (results : List (List SaveResult)) (journal : List (JournalEntry (List ℕ))) → saves scene results journal → AreSaved scene.setup.controllers results) →
     (before after taken now : Option (List ℕ)) (status : ℕ) →
     IsReadAndWritten before after taken now (λ input rest written. Answers kinds saves words input rest unread unwritten written status) →
-    IsReadAndWritten before after taken now (λ input rest written. IsComplete kinds words input unread unwritten calm status)
-complete kinds saves words unread unwritten calm settles None after taken now status told = tt
-complete kinds saves words unread unwritten calm settles (Some input) None taken now status told = tt
-complete kinds saves words unread unwritten calm settles (Some input) (Some rest) None now status told = tt
-complete kinds saves words unread unwritten calm settles (Some input) (Some rest) (Some taken) now status (written, is, answers) = (
-  written,
-  is,
-  record {
-    ends = answer_complete kinds saves words input rest unread unwritten status written answers;
-    rests = λ manner scenario asks limits quiet read wrote. answer_rests kinds saves words input rest unread unwritten calm settles manner scenario asks limits quiet read wrote status written answers;
-  },
-)
+    IsReadOf before after (λ input rest. IsComplete kinds words input unread unwritten calm status)
+complete kinds saves words unread unwritten calm settles before after taken now status told =
+    read_as before after (λ input rest wrote.
+    let answered = what_written taken now wrote in
+    record {
+      ends = answer_complete kinds saves words input rest unread unwritten status answered.0 answered.1;
+      rests = λ manner scenario asks limits quiet read written. answer_rests kinds saves words input rest unread unwritten calm settles manner scenario asks limits quiet read written status answered.0 answered.1;
+    })
+    told
+
+-- for want of memory a call is complete, whatever was read
+pub memoryless : (kinds : List ℕ) (words : List (List ℕ)) (unread unwritten calm : Type 0) (before after : Option (List ℕ)) → IsReadOf before after (λ input rest. IsComplete kinds words input unread unwritten calm 6)
+memoryless kinds words unread unwritten calm before after =
+    read_any before after (λ input rest. record {
+      ends = λ audit read wrote. (1, omega arith, refl);
+      rests = λ manner scenario asks limits quiet read wrote. (1, omega arith, refl);
+    })

@@ -23,7 +23,7 @@ use Rattle.top_call.specs.declared.service.Service.TheVariants as service
 use Rattle.top_call.specs.Audited.{report_limit, too_large}
 use Rattle.top_call.specs.Ending.{ending_status, outcome_text, EndsRead, EndsReport, EndsRun, EndsScenario}
 use Rattle.top_call.specs.Service.{limit_of}
-use Rattle.top_call.specs.Outcome.{Outcome, statuses, statuses_of_audit, IsOneLine, HasRead, To_the_end, Past_the_limit, IsUnserved, IsAudit, IsOfFourNumbers, IsUnplayed, PlaysNothing, ReadsNothing, statuses_of_made, IsAsked, Of_bytes, Of_numbers, manner_of, service_for}
+use Rattle.top_call.specs.Outcome.{Outcome, statuses, statuses_of_audit, IsOneLine, HasRead, To_the_end, Past_the_limit, IsUnserved, IsAudit, IsOfFourNumbers, IsPlayed, IsUnplayed, PlaysNothing, ReadsNothing, statuses_of_made, statuses_of_played, IsAsked, Of_bytes, Of_numbers, manner_of, service_for}
 use Rattle.top_call.specs.Outcome as outcome
 use Rattle.playing.specs.Manners.{Manner, In_order, Apart}
 use Rattle.journal.specs.Stables.{Saving}
@@ -99,17 +99,26 @@ pub scenario_ends : {X : Type 0} (manner : Manner) (kinds : List ℕ) (saves : T
 scenario_ends manner kinds saves bytes scenario (Ok e) is ran = ran_ends manner kinds saves bytes scenario e is ran
 scenario_ends manner kinds saves bytes scenario (Err x) is ran = tt
 
+-- words that are not accepted ask for no scenario that is read, nor do those of an audit
+never_played : {A : Type 0} (words : List (List ℕ)) → service_for (job_of words) ≡ None → IsPlayed words → A
+never_played words none (manner, is) = by_job (job_of words) none is
+  where
+    by_job : {A : Type 0} (job : Option Job) → service_for job ≡ None → manner_of job ≡ Some manner → A
+    by_job None none is = absurd cc
+    by_job (Some job) none is = absurd (let h = none in cc)
+
 module _ (words : List (List ℕ)) (unread unfailed : Type 0) where
   pub usage_tells : service_for (job_of words) ≡ None → unfailed → TellsCause words unread unfailed ending.Usage
   usage_tells none kept =
       let other : IsUnserved words = ap (λ x. is_some x) none in
-      record { usage = λ _. other; others = λ _. refl; failed = λ is. absurd (omega (arith, is)); served = λ _. kept; audit = λ is. never_served words other is; made = λ is. never_made words other is }
+      record { usage = λ _. other; others = λ _. refl; failed = λ is. absurd (omega (arith, is)); served = λ _. kept; audit = λ is. never_served words other is; made = λ is. never_made words other is; played = λ is. never_played words none is }
 
   -- an ending of a service that is none of words
   ends_tells : (s : Service) (e : Ending) → IsServed words s → ending_status e ≢ 2 → (ending_status e ≡ 4 → unread) → (ending_status e ≢ 4 → unfailed) →
-      (IsAudit words → Contains statuses_of_audit (ending_status e)) → (IsOfFourNumbers words → Contains statuses_of_made (ending_status e)) → TellsCause words unread unfailed e
-  ends_tells s e said no_usage failed served audit made =
-      record { usage = λ is. absurd (no_usage is); others = λ other. absurd (never_both words s said other); failed = failed; served = served; audit = audit; made = made }
+      (IsAudit words → Contains statuses_of_audit (ending_status e)) → (IsOfFourNumbers words → Contains statuses_of_made (ending_status e)) →
+      (IsPlayed words → Contains statuses_of_played (ending_status e)) → TellsCause words unread unfailed e
+  ends_tells s e said no_usage failed served audit made played =
+      record { usage = λ is. absurd (no_usage is); others = λ other. absurd (never_both words s said other); failed = failed; served = served; audit = audit; made = made; played = played }
 
   -- words for which something is read make no scenario of numbers
   pub read_no_made : {A : Type 0} (r : Reader) → IsServed words (service.Reads r) → IsOfFourNumbers words → A
@@ -119,25 +128,26 @@ module _ (words : List (List ℕ)) (unread unfailed : Type 0) where
 
   pub unread_tells : (r : Reader) → IsServed words (service.Reads r) → unread → TellsCause words unread unfailed ending.Unread
   unread_tells r said rose =
-      ends_tells (service.Reads r) ending.Unread said (λ is. omega (arith, is)) (λ _. rose) (λ other. absurd (other refl)) (λ _. (2, omega arith, refl)) (λ made. read_no_made r said made)
+      ends_tells (service.Reads r) ending.Unread said (λ is. omega (arith, is)) (λ _. rose) (λ other. absurd (other refl)) (λ _. (2, omega arith, refl)) (λ made. read_no_made r said made) (λ _. (2, omega arith, refl))
 
   -- an ending that is neither of these, of a run and of an audit
   run_tells : (s : Service) (e : Ending) → IsServed words s → (IsAudit words → ⊥) → unfailed → ending_status e ≢ 2 → ending_status e ≢ 4 → (IsOfFourNumbers words → Contains statuses_of_made (ending_status e)) →
-      TellsCause words unread unfailed e
-  run_tells s e said other kept no_usage no_failure range = ends_tells s e said no_usage (λ is. absurd (no_failure is)) (λ _. kept) (λ audit. absurd (other audit)) range
+      Contains statuses_of_played (ending_status e) → TellsCause words unread unfailed e
+  run_tells s e said other kept no_usage no_failure range played = ends_tells s e said no_usage (λ is. absurd (no_failure is)) (λ _. kept) (λ audit. absurd (other audit)) range (λ _. played)
 
   audit_tells : (e : Ending) → IsServed words (service.Reads reader.Audit) → unfailed → ending_status e ≢ 2 → ending_status e ≢ 4 → Contains statuses_of_audit (ending_status e) → TellsCause words unread unfailed e
   audit_tells e said kept no_usage no_failure range = ends_tells (service.Reads reader.Audit) e said no_usage (λ is. absurd (no_failure is)) (λ _. kept) (λ _. range) (λ made. read_no_made reader.Audit said made)
+      (λ played. no_audit words played.0 played.1 (job_served words (service.Reads reader.Audit) said))
 
   module _ (kinds : List ℕ) (saves : Telling) where
     tells_run : (manner : Manner) (s : Service) (e : Ending) (output : Output) (scenario : Scenario) → IsServed words s → (IsAudit words → ⊥) → unfailed → EndsRun manner kinds saves output scenario e → TellsCause words unread unfailed e
-    tells_run manner s (ending.Report written) output scenario said other kept ends = run_tells s (ending.Report written) said other kept (λ is. omega (arith, is)) (λ is. omega (arith, is)) (λ _. (0, omega arith, refl))
+    tells_run manner s (ending.Report written) output scenario said other kept ends = run_tells s (ending.Report written) said other kept (λ is. omega (arith, is)) (λ is. omega (arith, is)) (λ _. (0, omega arith, refl)) (0, omega arith, refl)
     tells_run manner s ending.Usage output scenario said other kept never = absurd never
     tells_run manner s (ending.Refused fault) output scenario said other kept never = absurd never
     tells_run manner s ending.Unread output scenario said other kept never = absurd never
-    tells_run manner s (ending.NoQuorum up needed) output scenario said other kept ends = run_tells s (ending.NoQuorum up needed) said other kept (λ is. omega (arith, is)) (λ is. omega (arith, is)) (λ _. (3, omega arith, refl))
-    tells_run manner s (ending.Overfull limit) output scenario said other kept ends = run_tells s (ending.Overfull limit) said other kept (λ is. omega (arith, is)) (λ is. omega (arith, is)) (λ _. (4, omega arith, refl))
-    tells_run manner s (ending.Unposted count letters) output scenario said other kept ends = run_tells s (ending.Unposted count letters) said other kept (λ is. omega (arith, is)) (λ is. omega (arith, is)) (λ _. (5, omega arith, refl))
+    tells_run manner s (ending.NoQuorum up needed) output scenario said other kept ends = run_tells s (ending.NoQuorum up needed) said other kept (λ is. omega (arith, is)) (λ is. omega (arith, is)) (λ _. (3, omega arith, refl)) (5, omega arith, refl)
+    tells_run manner s (ending.Overfull limit) output scenario said other kept ends = run_tells s (ending.Overfull limit) said other kept (λ is. omega (arith, is)) (λ is. omega (arith, is)) (λ _. (4, omega arith, refl)) (6, omega arith, refl)
+    tells_run manner s (ending.Unposted count letters) output scenario said other kept ends = run_tells s (ending.Unposted count letters) said other kept (λ is. omega (arith, is)) (λ is. omega (arith, is)) (λ _. (5, omega arith, refl)) (7, omega arith, refl)
     tells_run manner s ending.Same output scenario said other kept never = absurd never
     tells_run manner s (ending.Differs n) output scenario said other kept never = absurd never
 
@@ -147,7 +157,7 @@ module _ (words : List (List ℕ)) (unread unfailed : Type 0) where
         let other : IsAudit words → ⊥ = λ audit. no_audit words manner (ap (λ j. manner_of j) (job_served words (service.Reads r) said) ∙ plays) audit in
         elim (refused_or_ran manner kinds saves bytes e ends) [
           | inl refused ↦ subst (λ x. TellsCause words unread unfailed x) (sym refused.1)
-              (run_tells (service.Reads r) (ending.Refused refused.0) said other kept (λ is. omega (arith, is)) (λ is. omega (arith, is)) (λ made. read_no_made r said made))
+              (run_tells (service.Reads r) (ending.Refused refused.0) said other kept (λ is. omega (arith, is)) (λ is. omega (arith, is)) (λ made. read_no_made r said made) (1, omega arith, refl))
           | inr ran ↦ tells_run manner (service.Reads r) e told_as.Report ran.0 said other kept ran.2
         ]
 
@@ -183,13 +193,13 @@ module _ (words : List (List ℕ)) (unread unfailed : Type 0) where
 
 module _ (kinds : List ℕ) (saves : Telling) (words : List (List ℕ)) (unread : Type 0) where
   pub usage_caused : (before after : Option (List ℕ)) → service_for (job_of words) ≡ None → HasEndingCause kinds saves words unread before after ending.Usage
-  usage_caused None after none = tt
-  usage_caused (Some input) None none = tt
+  usage_caused None after none = ([], [], outcome.Usage (ap (λ x. is_some x) none))
+  usage_caused (Some input) None none = ([], [], outcome.Usage (ap (λ x. is_some x) none))
   usage_caused (Some input) (Some rest) none = outcome.Usage (ap (λ x. is_some x) none)
 
   pub unread_caused : (r : Reader) (before after : Option (List ℕ)) → IsServed words (service.Reads r) → unread → HasEndingCause kinds saves words unread before after ending.Unread
-  unread_caused r None after said rose = tt
-  unread_caused r (Some input) None said rose = tt
+  unread_caused r None after said rose = ([], [], outcome.Unread r said rose)
+  unread_caused r (Some input) None said rose = ([], [], outcome.Unread r said rose)
   unread_caused r (Some input) (Some rest) said rose = outcome.Unread r said rose
 
   abbrev IsCaused : List ℕ → List ℕ → Ending → Type 0
@@ -208,13 +218,18 @@ module _ (kinds : List ℕ) (saves : Telling) (words : List (List ℕ)) (unread 
   ran_caused input rest (ending.Differs n) manner scenario output asked never = absurd never
 
   -- the scenario that four numbers make
+  numbers_caused : (input : List ℕ) (e : Ending) (number controllers switches frames : ℕ) → IsServed words (service.Gen number controllers switches frames) →
+      EndsRun In_order kinds saves told_as.LastLine (generated number controllers switches frames) e → IsCaused input input e
+  numbers_caused input e number controllers switches frames said ends =
+      ran_caused input input e In_order (generated number controllers switches frames) told_as.LastLine
+      (Of_numbers number controllers switches frames (job_served words (service.Gen number controllers switches frames) said) refl) ends
+
   made_ended : (before after : Option (List ℕ)) (e : Ending) (number controllers switches frames : ℕ) → IsServed words (service.Gen number controllers switches frames) → after ≡ before →
       EndsRun In_order kinds saves told_as.LastLine (generated number controllers switches frames) e → HasEndingCause kinds saves words unread before after e
-  made_ended None after e number controllers switches frames said same ends = tt
-  made_ended (Some input) None e number controllers switches frames said same ends = tt
+  made_ended None after e number controllers switches frames said same ends = ([], [], numbers_caused [] e number controllers switches frames said ends)
+  made_ended (Some input) None e number controllers switches frames said same ends = ([], [], numbers_caused [] e number controllers switches frames said ends)
   made_ended (Some input) (Some rest) e number controllers switches frames said same ends =
-      ran_caused input rest e In_order (generated number controllers switches frames) told_as.LastLine
-      (Of_numbers number controllers switches frames (job_served words (service.Gen number controllers switches frames) said) (one same)) ends
+      subst (λ (left : List ℕ). IsCaused input left e) (sym (one same)) (numbers_caused input e number controllers switches frames said ends)
     where
       one : Some rest ≡ Some input → rest ≡ input
       one h = cc
@@ -229,9 +244,7 @@ module _ (kinds : List ℕ) (saves : Telling) (words : List (List ℕ)) (unread 
   pub made_of_numbers : {X : Type 0} (number controllers switches frames : ℕ) (scenario : Scenario) (result : Result Ending X) → IsServed words (service.Gen number controllers switches frames) →
       scenario ≡ generated number controllers switches frames → IfOk result (λ e. EndsRun In_order kinds saves told_as.LastLine scenario e) → IfOk result (λ e. IsOfNumbers kinds saves words unread e)
   made_of_numbers number controllers switches frames scenario (Ok e) said is ends =
-      λ made input. ran_caused input input e In_order (generated number controllers switches frames) told_as.LastLine
-      (Of_numbers number controllers switches frames (job_served words (service.Gen number controllers switches frames) said) refl)
-      (subst (λ s. EndsRun In_order kinds saves told_as.LastLine s e) is ends)
+      λ made input. numbers_caused input e number controllers switches frames said (subst (λ s. EndsRun In_order kinds saves told_as.LastLine s e) is ends)
   made_of_numbers number controllers switches frames scenario (Err x) said is ends = tt
 
   pub usage_of_numbers : service_for (job_of words) ≡ None → IsOfNumbers kinds saves words unread ending.Usage
@@ -309,8 +322,8 @@ module _ (kinds : List ℕ) (saves : Telling) (words : List (List ℕ)) (unread 
 
   ended : (r : Reader) (before after : Option (List ℕ)) (bytes : List ℕ) (e : Ending) → IsServed words (service.Reads r) → Consumes before after bytes →
       IsAtEnd after ⊎ (length bytes ≡ limit_of r + 1) → length bytes ≤ limit_of r + 1 → EndsRead kinds saves r bytes e → HasEndingCause kinds saves words unread before after e
-  ended r None after bytes e said read whole most ends = tt
-  ended r (Some input) None bytes e said read whole most ends = tt
+  ended r None after bytes e said read whole most ends = (bytes, [], read_all r bytes [] e said refl most ends)
+  ended r (Some input) None bytes e said read whole most ends = (bytes, [], read_all r bytes [] e said refl most ends)
   ended r (Some input) (Some rest) bytes e said read (inl end) most ends =
       let same : bytes ≡ input = sym (read ∙ ap (λ l. bytes ++ l) end ∙ append-nil bytes) in
       read_all r input rest e said end (subst (λ b. length b ≤ limit_of r + 1) same most) (subst (λ b. EndsRead kinds saves r b e) same ends)

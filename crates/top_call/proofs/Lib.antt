@@ -7,3 +7,5 @@ pub mod Shelving
 pub mod Tellings
 pub mod LastLine
 pub mod Recorded
+pub mod Streams
+pub mod Staying

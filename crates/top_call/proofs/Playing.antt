@@ -8,9 +8,9 @@ use Rattle.journal.specs.declared.journal.Turn.TheVariants as turn
 use Rattle.run_spec.specs.States.{Scene}
 use Rattle.world.specs.World.{Worlding}
 use Rattle.closing.specs.declared.closed.ClosingOutcome.{ClosingOutcome}
-use Rattle.closing.specs.Views.{most_view_of_a_script}
+use Rattle.closing.specs.Views.{most_view_of_a_script, StepSuspectsUpTo}
 use Rattle.playing.specs.Manners.{Manner}
-use Rattle.playing.specs.Played.{HasPlayed, StepSuspectsUpTo}
+use Rattle.playing.specs.Played.{HasPlayed}
 use Rattle.scenario.specs.Scenario.{HasView}
 
 module _ {B A : Type 0} (manner : Manner) (scene : Scene B) (steps : List Turn) (count : ℕ) (ended : ClosingOutcome) (w : Worlding B A) (h : HasPlayed manner scene steps count ended w) where

@@ -1,5 +1,5 @@
 -- What the run of a scenario is, once it was played.
-use Rattle.std.proofs.Common.{◌≡◌, ◌≤◌, ◌<◌, ◌⊎◌, ℕ, zero, suc, ◌+◌, List, [], ◌∷◌, ◌++◌, length, map, refl, sym, ◌∙◌, ap, subst, arith}
+use Rattle.std.proofs.Common.{◌≡◌, ◌≤◌, ◌<◌, ◌⊎◌, ℕ, zero, suc, ◌+◌, List, [], ◌∷◌, ◌++◌, length, map, take, refl, sym, ◌∙◌, ap, subst, arith}
 use Rattle.std.specs.Prelude.{◌-◌, ◌^◌, count_by, reverse, slice_get, slice_index_or, Some, IfOk, IfErr, Result, Ok, Err}
 use Rattle.std.specs.List.{AllByRecursion, range_with_len}
 use Rattle.std.proofs.lemmas.List.{length-map, reverse-reverse}
@@ -28,8 +28,8 @@ use Rattle.journal.specs.Part.{part}
 use Rattle.run_spec.specs.Bodies.{byte_bodies}
 use Rattle.run_spec.proofs.Bodies.{bytes_again}
 use Rattle.run_spec.proofs.Pasts.{from_some}
+use Rattle.run_spec.proofs.Group.{closes_by_group, first_same, first_saved, follows_same, named_both, possible_same}
 use Rattle.run_spec.proofs.Playing.{IsWholeRun, all_saved, one_journal, the_one_journal}
-use Rattle.run_spec.proofs.Playing as one_run
 use Rattle.journal.specs.declared.wire.Stop.{Stop}
 use Rattle.journal.specs.declared.wire.Stop.TheVariants.{OutOfMemory, JournalFull}
 use Rattle.journal.specs.Stables.{Saving}
@@ -67,7 +67,7 @@ use Rattle.top_call.specs.Runs.{AreSaved, HasRun, IfInOrder, IsDone, IsLawful, I
 use Rattle.top_call.proofs.Playing.{rest_is, within_journal}
 
 -- of the first stables
-there_is : {X : Type 0} (xs : List X) (i : ℕ) → i < length xs → (x : X) × (slice_get xs i ≡ Some x)
+pub there_is : {X : Type 0} (xs : List X) (i : ℕ) → i < length xs → (x : X) × (slice_get xs i ≡ Some x)
 there_is [] i less = absurd (omega (arith, less))
 there_is (x ∷ xs) zero less = (x, refl)
 there_is (x ∷ xs) (suc i) less = there_is xs i (omega (arith, less))
@@ -158,6 +158,7 @@ module _ {A W : Type 0} (law : AppLaw A) (saving : Saving W) (scenario : Scenari
         stood = s.1;
         stands = t.3;
         rose = subst (λ l. (saving.faults s.0 + count_by is_failed l ≤ saving.faults t.1) ⊎ (2 ^ 64 - 1 ≤ saving.faults t.1)) more t.4.rose;
+        calm = subst (λ l. count_by is_failed l ≡ 0 → saving.faults t.1 ≡ saving.faults s.0) more t.4.calm;
         pair_is = ap saving.pair (from_some t.1 last.0 (sym t.3 ∙ last.1)) ∙ last.2 ∙ ap (λ x. pair_in (state_of x)) (from_some t.0 n.member (sym t.2 ∙ n.stands)) ∙ ap pair_in n.state;
       }
 
@@ -242,14 +243,19 @@ module _ {A W : Type 0} (law : AppLaw A) (saving : Saving W) (scenario : Scenari
   module _ (count : ℕ) (ended : ClosingOutcome) (played : HasPlayed In_order (scene_in byte_bodies start kinds) scenario.steps count ended w) where
     -- a run of the scenario in which every save is made is one whole run
     is_whole : (results : List (List SaveResult)) (script closing journal : List (JournalEntry (List ℕ))) (end : ClosingAnswer) → IsRun In_order kinds scenario results script closing journal end →
-        AllByRecursion (λ saves. AllByRecursion (λ r. r ≡ Saved) saves) results → IsWholeRun OfRun scenario.steps (past script) closing end
-    is_whole results script closing journal end run saved = record {
-      results = results;
-      saved = one_run.each_saved results saved;
-      possible = subst (λ l. IsPossible OfRun results l) (ap past run.joined ∙ past_joined script closing) run.legal.possible;
-      follows = run.follows;
-      closes = run.closes;
-    }
+        AreSaved scenario.setup.controllers results → IsWholeRun OfRun scenario.steps (past script) closing end
+    is_whole results script closing journal end run saved =
+        let first : List (List SaveResult) = take scenario.setup.controllers results in
+        let same : (c : ℕ) → c < scenario.setup.controllers → results_of results c ≡ results_of first c = λ c there. first_same scenario.setup.controllers c results there in
+        let possible = subst (λ l. IsPossible OfRun results l) (ap past run.joined ∙ past_joined script closing) run.legal.possible in
+        let named = named_both OfRun.setup closing (past script) possible.named in
+        record {
+          results = first;
+          saved = first_saved scenario.setup.controllers results saved;
+          possible = possible_same OfRun results first same (reverse closing ++ past script) possible;
+          follows = follows_same OfRun results first same scenario.steps (past script) named.1 run.follows;
+          closes = closes_by_group OfRun results first same (past script) closing end named.1 named.0 run.closes;
+        }
 
     one : AreSaved scenario.setup.controllers Results → IsTheOne kinds scenario w.journal (closing_answer_of ended)
     one saved =
@@ -421,6 +427,7 @@ module _ {A G W : Type 0} (law : AppLaw A) (saving : Saving W) (scenario : Scena
         stood = s.1;
         stands = t.3;
         rose = subst (λ r. (saving.faults s.0 + count_by is_failed r ≤ saving.faults t.1) ⊎ (2 ^ 64 - 1 ≤ saving.faults t.1)) more t.4.rose;
+        calm = subst (λ l. count_by is_failed l ≡ 0 → saving.faults t.1 ≡ saving.faults s.0) more t.4.calm;
         pair_is = ap saving.pair (from_some t.1 last.0 (sym t.3 ∙ last.1)) ∙ last.2 ∙ ap (λ x. pair_in (state_of x)) (from_some t.0 n.member (sym t.2 ∙ n.stands)) ∙ ap pair_in n.state;
       }
 

@@ -21,16 +21,19 @@ use Rattle.top_call.specs.Service.{service_of}
 use Rattle.playing.specs.Manners.{Manner, In_order, Apart}
 use Rattle.top_call.specs.Runs.{IsDone, IsInLimits, IsLeft, IsOverfull, IsRunUnposted, Telling}
 
--- a claim on what is read and written, where both ends tell it: what the source had left at first, what
--- it has left at the end, and what the sink took
-abbrev pub IsReadAndWritten : Option (List ℕ) → Option (List ℕ) → Option (List ℕ) → Option (List ℕ) → (List ℕ → List ℕ → List ℕ → Type 0) → Type 0
-IsReadAndWritten (Some input) (Some rest) (Some before) after P = (written : List ℕ) × (after ≡ Some (before ++ written)) × P input rest written
-IsReadAndWritten _ _ _ _ P = Unit {0}
+-- a claim on what a source had left at first and has left at the end: as it tells both, or of some bytes where it doesn't
+abbrev pub IsReadOf : Option (List ℕ) → Option (List ℕ) → (List ℕ → List ℕ → Type 0) → Type 0
+IsReadOf (Some input) (Some rest) P = P input rest
+IsReadOf _ _ P = (input : List ℕ) × (rest : List ℕ) × P input rest
 
--- a claim on what is written, where the sink tells it
+-- a claim on what is written: as the sink tells it, or of some bytes where it doesn't
 abbrev pub IsWritten : Option (List ℕ) → Option (List ℕ) → (List ℕ → Type 0) → Type 0
-IsWritten None after P = Unit {0}
+IsWritten None after P = (written : List ℕ) × P written
 IsWritten (Some before) after P = (written : List ℕ) × (after ≡ Some (before ++ written)) × P written
+
+-- a claim on both
+abbrev pub IsReadAndWritten : Option (List ℕ) → Option (List ℕ) → Option (List ℕ) → Option (List ℕ) → (List ℕ → List ℕ → List ℕ → Type 0) → Type 0
+IsReadAndWritten before after taken now P = IsReadOf before after (λ input rest. IsWritten taken now (λ written. P input rest written))
 
 -- the source was read to its end, which is within a limit, or one byte past the limit
 pub data HasRead (limit : ℕ) (input : List ℕ) : List ℕ → Type 0 where
@@ -66,6 +69,10 @@ abbrev pub manner_of : Option Job → Option Manner
 manner_of (Some Sim) = Some In_order
 manner_of (Some Run) = Some Apart
 manner_of _ = None
+
+-- words that ask to play a scenario that is read
+abbrev pub IsPlayed : List (List ℕ) → Type 0
+IsPlayed words = (manner : Manner) × (manner_of (job_of words) ≡ Some manner)
 
 -- the scenario that words ask to play, in which manner, and what is told of its run at rest: of bytes that were all read, its
 -- report; of four numbers, the report's last line
@@ -118,6 +125,10 @@ statuses_of_audit = 0 ∷ 3 ∷ 4 ∷ 5 ∷ 6 ∷ 8 ∷ []
 -- and those to the words of a made scenario
 abbrev pub statuses_of_made : List ℕ
 statuses_of_made = 0 ∷ 5 ∷ 6 ∷ 7 ∷ 9 ∷ 10 ∷ []
+
+-- those to the words of a scenario that is read
+abbrev pub statuses_of_played : List ℕ
+statuses_of_played = 0 ∷ 3 ∷ 4 ∷ 5 ∷ 6 ∷ 7 ∷ 9 ∷ 10 ∷ []
 
 -- the answers at which no scenario was played
 abbrev pub IsUnplayed : ℕ → Type 0

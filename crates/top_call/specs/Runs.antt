@@ -48,13 +48,14 @@ pub record IsLawful {B : Type 0} (scene : Scene B) (results : List (List SaveRes
   pub kept : AreKept scene entries
 
 -- the stable pair of a controller is the one that the journal gives, and its count of faults rose with each of the
--- controller's saves that failed, up to its end
+-- controller's saves that failed, up to its end. Where none failed it stands
 pub record StableTells {W : Type 0} (saving : Saving W) (stables stables_after : List W) (scene : Scene (List ℕ)) (results : List (List SaveResult)) (journal : List (JournalEntry (List ℕ))) (c : ℕ) : Type 0 where
   pub old : W
   pub new : W
   pub stood : slice_get stables c ≡ Some old
   pub stands : slice_get stables_after c ≡ Some new
   pub rose : (saving.faults old + count_by is_failed (results_of results c) ≤ saving.faults new) ⊎ (2 ^ 64 - 1 ≤ saving.faults new)
+  pub calm : count_by is_failed (results_of results c) ≡ 0 → saving.faults new ≡ saving.faults old
   pub pair_is : saving.pair new ≡ pair_in (controller_state scene results c (past journal))
 
 -- so it is with those of all controllers, and further stable pairs are left alone
@@ -89,7 +90,7 @@ pub record IsTheOne (kinds : List ℕ) (scenario : Scenario) (journal : List (Jo
   pub most : ℕ
   pub plays_it : plays most (scene_for kinds scenario) [] scenario.steps ≡ record { entries = past journal; answer = Some answer }
   pub only : (results : List (List SaveResult)) (script closing other : List (JournalEntry (List ℕ))) (end : ClosingAnswer) →
-      IsRun In_order kinds scenario results script closing other end → AllByRecursion (λ saves. AllByRecursion (λ r. r ≡ Saved) saves) results → (other ≡ journal) × (end ≡ answer)
+      IsRun In_order kinds scenario results script closing other end → AreSaved scenario.setup.controllers results → (other ≡ journal) × (end ≡ answer)
 
 -- a claim on runs whose steps are done in order: threads may come in any order, so these have many journals
 abbrev pub IfInOrder : Manner → Type 0 → Type 0
@@ -161,3 +162,8 @@ pub record IsInLimits (manner : Manner) (kinds : List ℕ) (scenario : Scenario)
 abbrev pub AreCalm : {W : Type 0} → Saving W → List W → List W → Type 0
 AreCalm {W = W} saving stables stables_after =
     (c : ℕ) (old new : W) → slice_get stables c ≡ Some old → slice_get stables_after c ≡ Some new → (saving.faults new ≡ saving.faults old) × (saving.faults new < 2 ^ 64 - 1)
+
+-- whatever became of a call: as many stable pairs stand as before, and no count of their faults fell
+pub record StablesStay {W : Type 0} (saving : Saving W) (stables stables_after : List W) : Type 0 where
+  pub count : length stables_after ≡ length stables
+  pub later : (c : ℕ) (old new : W) → slice_get stables c ≡ Some old → slice_get stables_after c ≡ Some new → saving.faults old ≤ saving.faults new

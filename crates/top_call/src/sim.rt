@@ -8,7 +8,7 @@ ghost use Rattle.top_call.specs.declared.sim.Output.TheVariants as told_as;
 ghost use Rattle.top_call.specs.Ending.{EndsRun};
 ghost use Rattle.report.specs.Fits.{FitsRecord};
 ghost use Rattle.top_call.specs.Play.{AreFresh, IfDone, IfReport, StopsAs, ending_by, told_text};
-ghost use Rattle.top_call.specs.Runs.{StablesTell};
+ghost use Rattle.top_call.specs.Runs.{StablesStay, StablesTell};
 
 use crate::ending::Ending;
 use crate::remains::Remains;
@@ -122,8 +122,9 @@ pub fn simulate<A: App, W: Stable>(
     requires each { length shelves.items ≡ scenario.now.setup.controllers }
     requires stocked { (kinds : List ℕ) × AreStocked A.law kinds shelves.items }
     requires fresh { AreFresh W.saving stables.old }
-    ensures { (kinds : List ℕ) → AreStocked A.law kinds shelves.items →
+    ensures ends { (kinds : List ℕ) → AreStocked A.law kinds shelves.items →
         IfOk result (EndsRun In_order kinds (StablesTell W.saving stables.old stables.new) output scenario.now) }
+    ensures stay { StablesStay W.saving stables.old stables.new }
 {
     let mut world = World::<Bytes, A>::new(alloc, &scenario.setup, shelves)?;
     let ended = play(alloc, &mut world, stables, scenario.steps.as_slice());
@@ -159,8 +160,9 @@ pub fn simulate_apart<
     requires each { length shelves.items ≡ scenario.now.setup.controllers }
     requires stocked { (kinds : List ℕ) × AreStocked A.law kinds shelves.items }
     requires fresh { AreFresh W.saving stables.old.items }
-    ensures { (kinds : List ℕ) → AreStocked A.law kinds shelves.items →
+    ensures ends { (kinds : List ℕ) → AreStocked A.law kinds shelves.items →
         IfOk result (EndsRun Apart kinds (StablesTell W.saving stables.old.items stables.new.items) told_as.Report scenario.now) }
+    ensures stay { StablesStay W.saving stables.old.items stables.new.items }
 {
     let world = World::<Bytes, A>::new(alloc, &scenario.setup, shelves)?;
     match play_apart(rt, alloc, gate, world, stables, scenario.steps.as_slice()) {

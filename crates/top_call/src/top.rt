@@ -7,11 +7,11 @@ ghost use Rattle.playing.specs.Manners.{In_order, Apart};
 ghost use Rattle.top_call.specs.declared.service.Reader.TheVariants as readers;
 ghost use Rattle.top_call.specs.declared.sim.Output.TheVariants as told_as;
 ghost use Rattle.top_call.specs.Call.{ForChains, IsAnswered, IsCompleted, IsMadeOfNumbers, stream};
-ghost use Rattle.top_call.specs.Outcome.{IsOneLine, IsWritten, IsUnserved, IsAudit, IsOfFourNumbers, IsUnplayed, PlaysNothing, ReadsNothing, service_for, statuses, statuses_of_usage, statuses_of_audit, statuses_of_made};
+ghost use Rattle.top_call.specs.Outcome.{IsOneLine, IsWritten, IsUnserved, IsAudit, IsOfFourNumbers, IsPlayed, IsUnplayed, PlaysNothing, ReadsNothing, service_for, statuses, statuses_of_usage, statuses_of_audit, statuses_of_made, statuses_of_played};
 ghost use Rattle.top_call.specs.Ending.{ending_status, EndsRead, EndsScenario, EndsRun};
 ghost use Rattle.top_call.specs.Cause.{HasEndingCause, IsOfNumbers, TellsCause};
 ghost use Rattle.top_call.specs.Play.{AreChains, AreFresh};
-ghost use Rattle.top_call.specs.Runs.{AreCalm, StablesTell};
+ghost use Rattle.top_call.specs.Runs.{AreCalm, StablesStay, StablesTell};
 
 use crate::auditing::audited;
 use crate::ending::Ending;
@@ -63,6 +63,7 @@ pub fn ravana<
     ensures audit { IsAudit (map string_bytes words.now) → Contains statuses_of_audit result }
     ensures complete { ForChains A.law chains.items (λ kinds. IsCompleted kinds (map string_bytes words.now) (stream S.left S.faults source.old source.new) (stream K.taken K.faults sink.old sink.new) (AreCalm W.saving stables.old.items stables.new.items) result) }
     ensures made { IsOfFourNumbers (map string_bytes words.now) → Contains statuses_of_made result }
+    ensures played { IsPlayed (map string_bytes words.now) → Contains statuses_of_played result }
     ensures unread { result ≡ 4 → Rose (S.faults source.old) (S.faults source.new) }
     ensures unwritten { result ≡ 5 → Rose (K.faults sink.old) (K.faults sink.new) }
     ensures range { Contains statuses result }
@@ -78,7 +79,10 @@ pub fn ravana<
     ensures unplayed { PlaysNothing (map string_bytes words.now) → stables.new.items ≡ stables.old.items }
     ensures untouched { IsUnplayed result → stables.new.items ≡ stables.old.items }
 
-    // What needs no source is told by the sink alone.
+    // Whatever the answer is, 6 too.
+    ensures stay { StablesStay W.saving stables.old.items stables.new.items }
+
+    // What needs nothing of a source: these lines and the words of a made scenario.
     ensures lines { IsWritten (K.taken sink.old) (K.taken sink.new) (IsOneLine result) }
     ensures numbers { ForChains A.law chains.items (λ kinds. IsMadeOfNumbers kinds (StablesTell W.saving stables.old.items stables.new.items) (map string_bytes words.now) (stream S.left S.faults source.old source.new) (stream K.taken K.faults sink.old sink.new) result) }
 {
@@ -120,6 +124,7 @@ fn end_of_scenario<A: App, W: Stable>(
     ensures ends { (kinds : List ℕ) → AreChains A.law kinds chains.items →
         IfOk result (EndsRun In_order kinds (StablesTell W.saving stables.old.items stables.new.items) output scenario.now) }
     ensures unplayed { IfOk result (λ ending. IsUnplayed (ending_status ending) → stables.new.items ≡ stables.old.items) }
+    ensures stay { StablesStay W.saving stables.old.items stables.new.items }
 {
     let shelves = shelves_of(alloc, chains, scenario.setup.controllers)?;
     simulate(alloc, scenario, output, stables, shelves, remains)
@@ -138,6 +143,7 @@ fn simulated<A: App, W: Stable>(
     ensures ends { (kinds : List ℕ) → AreChains A.law kinds chains.items →
         IfOk result (EndsScenario In_order kinds (StablesTell W.saving stables.old.items stables.new.items) bytes) }
     ensures unplayed { IfOk result (λ ending. IsUnplayed (ending_status ending) → stables.new.items ≡ stables.old.items) }
+    ensures stay { StablesStay W.saving stables.old.items stables.new.items }
 {
     match read_scenario(alloc, bytes.as_slice()) {
         Ok(scenario) => {
@@ -174,6 +180,7 @@ fn end_of_threads<A: App + Send, W: Stable + Drop + Send, G: Gate + Sync, R: Thr
     ensures ends { (kinds : List ℕ) → AreChains A.law kinds chains.items →
         IfOk result (EndsRun Apart kinds (StablesTell W.saving stables.old.items stables.new.items) told_as.Report scenario.now) }
     ensures unplayed { IfOk result (λ ending. IsUnplayed (ending_status ending) → stables.new.items ≡ stables.old.items) }
+    ensures stay { StablesStay W.saving stables.old.items stables.new.items }
 {
     let shelves = shelves_of(alloc, chains, scenario.setup.controllers)?;
     simulate_apart(rt, alloc, gate, scenario, stables, shelves, remains)
@@ -199,6 +206,7 @@ fn simulated_apart<
     ensures ends { (kinds : List ℕ) → AreChains A.law kinds chains.items →
         IfOk result (EndsScenario Apart kinds (StablesTell W.saving stables.old.items stables.new.items) bytes) }
     ensures unplayed { IfOk result (λ ending. IsUnplayed (ending_status ending) → stables.new.items ≡ stables.old.items) }
+    ensures stay { StablesStay W.saving stables.old.items stables.new.items }
 {
     match read_scenario(alloc, bytes.as_slice()) {
         Ok(scenario) => {
@@ -228,6 +236,7 @@ fn end_of_reading<A: App + Send, W: Stable + Drop + Send, G: Gate + Sync, R: Thr
     ensures ends { (kinds : List ℕ) → AreChains A.law kinds chains.items →
         IfOk result (EndsRead kinds (StablesTell W.saving stables.old.items stables.new.items) reader bytes) }
     ensures unplayed { IfOk result (λ ending. IsUnplayed (ending_status ending) → stables.new.items ≡ stables.old.items) }
+    ensures stay { StablesStay W.saving stables.old.items stables.new.items }
     ensures audited { reader ≡ readers.Audit → stables.new.items ≡ stables.old.items }
 {
     match reader {
@@ -266,6 +275,7 @@ fn outcome<
     ensures unread { ReadsNothing (map string_bytes words.now) → source.new ≡ source.old }
     ensures unplayed { PlaysNothing (map string_bytes words.now) → stables.new.items ≡ stables.old.items }
     ensures untouched { IfOk result (λ ending. IsUnplayed (ending_status ending) → stables.new.items ≡ stables.old.items) }
+    ensures stay { StablesStay W.saving stables.old.items stables.new.items }
     ensures memory { OnErr result (S.faults source.new ≡ S.faults source.old) }
     ensures later { S.faults source.old ≤ S.faults source.new }
 {

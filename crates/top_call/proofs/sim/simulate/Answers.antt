@@ -6,11 +6,11 @@ use Rattle.journal.specs.Actors.{IsActor}
 use Rattle.journal.specs.Turns.{turn_actor}
 use Rattle.run_spec.specs.Bodies.{byte_bodies}
 use Rattle.world.specs.World.{scene_in}
-use Rattle.closing.specs.Views.{most_view_of_a_script}
+use Rattle.closing.specs.Views.{most_view_of_a_script, StepSuspectsUpTo}
 use Rattle.closing.proofs.Leading.{runs_again}
 use Rattle.top_call.proofs.Ran.{ends_closed, ends_stopped, fresh_pairs, primary_there, script_within}
-use Rattle.playing.specs.Played.{StepSuspectsUpTo}
 use Rattle.top_call.proofs.Playing.{views_up_to}
+use Rattle.top_call.proofs.Staying.{stay_kept, stay_same}
 use Rattle.top_call.proofs.sim.simulate.Goals as goal
 
 pub play-ended-requires-clause-holds : goal.play-ended-requires-clause-holds
@@ -43,8 +43,8 @@ rested-requires-clause-led g c =
     (runs_again law byte_bodies start c.play-ended.new.world kinds c.in-Ok.ensures.keeps.setup (c.in-Ok.ensures.keeps.holds kinds holds)) refl
     c.play-ended.result c.in-Ok.closed c.in-Ok.script c.in-Ok.is c.play-ended.ensures.up
 
-pub returns-in-Ok : goal.returns-in-Ok
-returns-in-Ok g c =
+pub returns-in-Ok-clause-ends : goal.returns-in-Ok-clause-ends
+returns-in-Ok-clause-ends g c =
     let law = g.A.App.law in
     let scenario = c.args.scenario.now in
     let start = c.in_ok-world.world in
@@ -56,8 +56,8 @@ returns-in-Ok g c =
     c.play-ended.result c.in-Ok.closed c.in-Ok.script c.args.output c.len-steps.result c.rested.result c.in-Ok.is c.len-steps.ensures
     c.play-ended.ensures.keeps (c.play-ended.ensures.played kinds holds) c.play-ended.ensures.up c.rested.ensures.ending c.rested.ensures.fits
 
-pub returns-in-Err : goal.returns-in-Err
-returns-in-Err g c =
+pub returns-in-Err-clause-ends : goal.returns-in-Err-clause-ends
+returns-in-Err-clause-ends g c =
     let law = g.A.App.law in
     let scenario = c.args.scenario.now in
     let start = c.in_ok-world.world in
@@ -71,3 +71,26 @@ returns-in-Err g c =
 pub play-ended-requires-clause-views : goal.play-ended-requires-clause-views
 play-ended-requires-clause-views g c =
     subst (λ (l : List Turn). AllByRecursion (λ t. StepSuspectsUpTo most_view_of_a_script t) l) (sym c.as_slice.ensures) (views_up_to c.args.scenario.now.steps c.requires.is.views)
+
+pub returns-in-Ok-clause-stay : goal.returns-in-Ok-clause-stay
+returns-in-Ok-clause-stay g c =
+    let law = g.A.App.law in
+    let kinds = c.requires.stocked.0 in
+    let start = c.in_ok-world.world in
+    let starts = c.in_ok-world.ensures.starts in
+    let holds = c.in_ok-world.ensures.holds kinds c.requires.stocked.1 in
+    stay_kept law g.W.Stable.saving kinds start c.args.stables.now c.play-ended.new.stables holds
+    (fresh_pairs law g.W.Stable.saving c.args.stables.now c.args.scenario.now.setup start kinds c.requires.fresh starts holds) c.play-ended.new.world c.play-ended.ensures.keeps
+
+pub returns-in-Err-clause-stay : goal.returns-in-Err-clause-stay
+returns-in-Err-clause-stay g c =
+    let law = g.A.App.law in
+    let kinds = c.requires.stocked.0 in
+    let start = c.in_ok-world.world in
+    let starts = c.in_ok-world.ensures.starts in
+    let holds = c.in_ok-world.ensures.holds kinds c.requires.stocked.1 in
+    stay_kept law g.W.Stable.saving kinds start c.args.stables.now c.play-ended.new.stables holds
+    (fresh_pairs law g.W.Stable.saving c.args.stables.now c.args.scenario.now.setup start kinds c.requires.fresh starts holds) c.play-ended.new.world c.play-ended.ensures.keeps
+
+pub returns-in_err-world-clause-stay : goal.returns-in_err-world-clause-stay
+returns-in_err-world-clause-stay g c = stay_same g.W.Stable.saving c.args.stables.now

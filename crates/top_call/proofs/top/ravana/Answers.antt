@@ -1,9 +1,11 @@
-use Rattle.std.proofs.Common.{sym, ◌∙◌, refl, arith, subst}
-use Rattle.top_call.proofs.Complete.{calm_saves, complete}
+use Rattle.std.proofs.Common.{map, sym, ◌∙◌, refl, arith, subst}
+use Rattle.std.specs.Prelude.{string_bytes}
+use Rattle.journal.specs.Causes.{Rose}
+use Rattle.top_call.proofs.Complete.{calm_saves, complete, memoryless}
 use Rattle.top_call.proofs.Endings.{in_range, memoryless_played, unwritten_played}
 use Rattle.top_call.proofs.Tellings.{served, cut, nothing, line_served, line_cut, line_nothing, numbers_served, numbers_cut, numbers_nothing}
 use Rattle.top_call.specs.Outcome.{IsUnplayed}
-use Rattle.top_call.specs.Runs.{StablesTell}
+use Rattle.top_call.specs.Runs.{AreCalm, StablesTell}
 use Rattle.top_call.proofs.top.ravana.Goals as goal
 
 pub returns-in_default-clause-answer : goal.returns-in_default-clause-answer
@@ -15,8 +17,9 @@ returns-in_default-clause-audit g c = λ _. (4, omega arith, refl)
 pub returns-in_default-clause-complete : goal.returns-in_default-clause-complete
 returns-in_default-clause-complete g c =
     λ kinds chains.
-    let saves = StablesTell g.W.Stable.saving c.args.stables.now.items c.outcome.new.stables.items in
-    complete kinds saves _ _ _ _ (calm_saves g.W.Stable.saving c.args.stables.now.items c.outcome.new.stables.items) _ _ _ _ _ (nothing kinds saves _ _ _ _ _ _)
+    memoryless kinds (map string_bytes c.args.words.now) (Rose (g.S.Source.faults c.args.source.now) (g.S.Source.faults c.outcome.new.source))
+    (Rose (g.K.Sink.faults c.args.sink.now) (g.K.Sink.faults c.args.sink.now)) (AreCalm g.W.Stable.saving c.args.stables.now.items c.outcome.new.stables.items)
+    (g.S.Source.left c.args.source.now) (g.S.Source.left c.outcome.new.source)
 
 pub returns-in_default-clause-range : goal.returns-in_default-clause-range
 returns-in_default-clause-range g c = (5, omega arith, refl)
@@ -30,8 +33,9 @@ returns-in_default-into_text-clause-audit g c = λ _. (4, omega arith, refl)
 pub returns-in_default-into_text-clause-complete : goal.returns-in_default-into_text-clause-complete
 returns-in_default-into_text-clause-complete g c =
     λ kinds chains.
-    let saves = StablesTell g.W.Stable.saving c.args.stables.now.items c.outcome.new.stables.items in
-    complete kinds saves _ _ _ _ (calm_saves g.W.Stable.saving c.args.stables.now.items c.outcome.new.stables.items) _ _ _ _ _ (nothing kinds saves _ _ _ _ _ _)
+    memoryless kinds (map string_bytes c.args.words.now) (Rose (g.S.Source.faults c.args.source.now) (g.S.Source.faults c.outcome.new.source))
+    (Rose (g.K.Sink.faults c.args.sink.now) (g.K.Sink.faults c.args.sink.now)) (AreCalm g.W.Stable.saving c.args.stables.now.items c.outcome.new.stables.items)
+    (g.S.Source.left c.args.source.now) (g.S.Source.left c.outcome.new.source)
 
 pub returns-in_default-into_text-clause-range : goal.returns-in_default-into_text-clause-range
 returns-in_default-into_text-clause-range g c = (5, omega arith, refl)
@@ -131,3 +135,15 @@ returns-clause-lines g c = line_cut _ _ _ c.in-Err.ensures.err
 pub returns-clause-numbers : goal.returns-clause-numbers
 returns-clause-numbers g c = λ kinds chains.
     numbers_cut kinds (StablesTell g.W.Stable.saving c.args.stables.now.items c.outcome.new.stables.items) _ _ _ _ _ c.in-Ok.ending _ (c.in-Ok.ensures.numbers kinds chains) c.in-Ok-into_text.ensures.ok c.in-Err.ensures.cause.failed c.in-Err.ensures.err
+
+pub returns-in_default-clause-played : goal.returns-in_default-clause-played
+returns-in_default-clause-played g c = λ _. (4, omega arith, refl)
+
+pub returns-in_default-into_text-clause-played : goal.returns-in_default-into_text-clause-played
+returns-in_default-into_text-clause-played g c = λ _. (4, omega arith, refl)
+
+pub returns-in-Ok-write_to-clause-played : goal.returns-in-Ok-write_to-clause-played
+returns-in-Ok-write_to-clause-played g c = λ is. rw c.status-status.ensures (c.in-Ok.ensures.told.played is)
+
+pub returns-clause-played : goal.returns-clause-played
+returns-clause-played g c = λ _. (3, omega arith, refl)

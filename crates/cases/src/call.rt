@@ -57,7 +57,16 @@ impl Answer {
 impl Call {
     /// Whether it is to report the run of a scenario.
     pub fn is_sim(&self) -> bool {
-        matches!(self.words.as_slice(), [word] if word.as_str() == "sim")
+        self.is("sim")
+    }
+
+    /// Whether it is to report a run whose actors are threads.
+    pub fn is_run(&self) -> bool {
+        self.is("run")
+    }
+
+    fn is(&self, word: &str) -> bool {
+        matches!(self.words.as_slice(), [own] if own.as_str() == word)
     }
 }
 

@@ -1,5 +1,6 @@
 //! What differs in a case.
 
+use journal::Actor;
 use std::alloc::{AllocError, AllocFailed, Global};
 use std::fmt;
 use std::io::{self, ErrorKind};
@@ -35,6 +36,12 @@ pub enum Difference {
     /// How many saves failed.
     FailedSaves {
         found: u64,
+        wanted: u64,
+    },
+    /// How often an actor of `run` passed the gate. `None` where it passed before a turn that was not its next.
+    Passes {
+        actor: Actor,
+        found: Option<u64>,
         wanted: u64,
     },
     /// The audit of the report that was written.
@@ -161,6 +168,25 @@ fn write_saves<W: fmt::Write>(f: &mut fmt::Formatter<W>, found: u64, wanted: u64
     write!(f, "{found} saves failed, wanted {wanted}")
 }
 
+/// A count of passes that differs.
+fn write_passes<W: fmt::Write>(
+    f: &mut fmt::Formatter<W>,
+    actor: Actor,
+    found: Option<u64>,
+    wanted: u64,
+) -> fmt::Result {
+    match found {
+        Some(found) => write!(
+            f,
+            "{actor:?} passed the gate {found} times, wanted {wanted}"
+        ),
+        None => write!(
+            f,
+            "{actor:?} passed the gate before a turn that was not its next"
+        ),
+    }
+}
+
 /// The read or the write that failed, where a call ends otherwise for it.
 fn write_failing<W: fmt::Write>(
     f: &mut fmt::Formatter<W>,
@@ -194,6 +220,11 @@ impl fmt::Display for Difference {
             Difference::NotText => write!(f, "no text is written"),
             Difference::Status { found, wanted } => write_status(f, *found, *wanted),
             Difference::FailedSaves { found, wanted } => write_saves(f, *found, *wanted),
+            Difference::Passes {
+                actor,
+                found,
+                wanted,
+            } => write_passes(f, *actor, *found, *wanted),
             Difference::Audit => write!(f, "the audit of its report differs"),
             Difference::Lists { from } => write!(f, "with lists from controller {from} on"),
             Difference::Pieces { most } => write!(f, "in pieces of {most} bytes"),

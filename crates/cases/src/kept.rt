@@ -43,6 +43,8 @@ pub fn read_case<R: Files + AllocGlobal>(
         wanted,
         lists: None,
         pieces: Vec::new(rt.alloc()),
+        waits: Vec::new(rt.alloc()),
+        passes: Vec::new(rt.alloc()),
     })
 }
 

@@ -4,6 +4,7 @@ use crate::call::{Call, ControllerSave, words_of};
 use crate::case::Case;
 use crate::difference::{Difference, shown};
 use crate::files::{read_bytes, read_text};
+use crate::passing::{Passes, Waits};
 use crate::wanted::{Passage, Wanted};
 use of_types::Octets;
 use std::alloc::{AllocError, Global};
@@ -26,6 +27,8 @@ pub struct Row<'a> {
     whole: Option<&'a str>,
     passages: Vec<Passage>,
     pieces: Vec<usize>,
+    waits: Vec<Waits>,
+    passes: Vec<Passes>,
 }
 
 /// What the name of a row is, or that of its table where it has none.
@@ -73,6 +76,8 @@ impl<'a> Row<'a> {
             whole: None,
             passages: Vec::new(alloc),
             pieces: Vec::new(alloc),
+            waits: Vec::new(alloc),
+            passes: Vec::new(alloc),
         }
     }
 
@@ -96,6 +101,8 @@ impl<'a> Row<'a> {
             "line" => self.begin_passage(alloc, text),
             "then" => self.go_on(alloc, text),
             "pieces" => add(&mut self.pieces, text.parse().ok()),
+            "waits" => add(&mut self.waits, Waits::of(text)),
+            "passes" => add(&mut self.passes, Passes::of(text)),
             _ => Ok(false),
         }
     }
@@ -185,6 +192,8 @@ impl<'a> Row<'a> {
             },
             lists: self.lists,
             pieces: self.pieces,
+            waits: self.waits,
+            passes: self.passes,
         })
     }
 }

@@ -2,6 +2,7 @@
 //! those that differ.
 #![tactic(auto)]
 
+mod counting;
 mod index;
 mod meeting;
 mod play;

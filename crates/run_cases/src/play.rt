@@ -1,7 +1,8 @@
 //! The play of a case, in each way that it asks for.
 ghost use Rattle.std.specs.Prelude.{◌<◌};
 
-use crate::serving::{PLAIN, Way, serve};
+use crate::counting::CountingGate;
+use crate::serving::{PLAIN, Way, serve, serve_at};
 use cases::{Answer, Call, Case, Difference, words_of};
 use of_types::Octets;
 use std::alloc::Global;
@@ -28,10 +29,14 @@ pub fn play<R: Threads + Wait + Sync>(
     alloc: Global,
     case: &Case,
 ) -> Result<(), Difference> {
-    let answer = serve(rt, alloc, &case.call, PLAIN)?;
+    let gate = CountingGate::new(alloc, &case.waits)?;
+    let answer = serve_at(rt, alloc, &gate, &case.call, PLAIN)?;
     case.wanted.check(alloc, &answer)?;
-    if answer.status == 0 && case.call.is_sim() {
+    gate.check(&case.passes)?;
+    if answer.status == 0 && (case.call.is_sim() || case.call.is_run()) {
         check_audit(rt, alloc, answer.written.as_slice())?;
+    }
+    if answer.status == 0 && case.call.is_sim() {
         check_apart(rt, alloc, case)?;
     }
     check_lists(rt, alloc, case, &answer)?;

@@ -51,8 +51,19 @@ pub fn serve<R: Threads + Wait + Sync>(
     call: &Call,
     way: Way,
 ) -> Result<Answer, AllocError> {
+    serve_at(rt, alloc, &FreeGate, call, way)
+}
+
+/// Serves a call in a way, at a gate.
+pub fn serve_at<G: Gate + Sync, R: Threads + Wait + Sync>(
+    rt: &R,
+    alloc: Global,
+    gate: &G,
+    call: &Call,
+    way: Way,
+) -> Result<Answer, AllocError> {
     let mut stables = stables(alloc, &call.saves)?;
-    let served = serve_by(rt, alloc, &FreeGate, call, way, &mut stables)?;
+    let served = serve_by(rt, alloc, gate, call, way, &mut stables)?;
     Ok(Answer {
         status: served.status,
         written: served.written,

@@ -7,7 +7,7 @@ use std::mem::forget;
 pub enum Remains {
     /// It is given back.
     Freed,
-    /// It is left to the end of the process, which comes next: to free each letter of a journal takes a twelfth of a run.
+    /// It is left to the end of the process, which comes next: to free each part of a long run would take time and change nothing.
     Left,
 }
 

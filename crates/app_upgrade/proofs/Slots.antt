@@ -69,10 +69,17 @@ module _ (parts : List Version) (last : AreLast parts) where
           let p = and_parts (nat_lt (active_of parts) asked) (nat_lt asked (length versions)) h in
           let listed = ltb-true asked (length versions) p.1 in
           let later : active_of parts + gone ≡ active_of (drop gone parts) = omega (arith, are_left, ltb-true (active_of parts) asked p.0, listed, length-drop gone parts) in
-          record {
-            some = omega (arith, are_left, listed, length-drop gone parts);
-            kinds = sym (drop-map kind_in gone parts) ∙ ap (drop gone) last.kinds ∙ drop-drop gone (active_of parts) versions ∙ ap (λ n. drop n versions) later;
-          }
+          record { kinds = sym (drop-map kind_in gone parts) ∙ ap (drop gone) last.kinds ∙ drop-drop gone (active_of parts) versions ∙ ap (λ n. drop n versions) later }
+
+  -- one is left where there was one
+  pub some_left : (asked : ℕ) → 0 < length parts → 0 < length (left_after asked parts)
+  some_left asked some = by_test (nat_lt (active_of parts) asked && nat_lt asked (length versions)) refl
+    where
+      by_test : (b : Bool) → (nat_lt (active_of parts) asked && nat_lt asked (length versions)) ≡ b → 0 < length (if b then drop (asked - active_of parts) parts else parts)
+      by_test false h = some
+      by_test true h =
+          let listed = ltb-true asked (length versions) (and_parts (nat_lt (active_of parts) asked) (nat_lt asked (length versions)) h).1 in
+          omega (arith, are_left, listed, length-drop (asked - active_of parts) parts)
 
 -- the parts of a slot fit a setup, and those behind the first are as their versions start
 abbrev AreReady : (Version → Setup → Type 0) → (Version → List ℕ) → List Version → Setup → Type 0

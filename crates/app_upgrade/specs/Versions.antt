@@ -1,5 +1,5 @@
 -- The versions of an application as parts.
-use Rattle.std.specs.Prelude.{◌≡◌, ◌<◌, ℕ, List, length, map, drop}
+use Rattle.std.specs.Prelude.{◌≡◌, ℕ, List, map, drop}
 use Rattle.app_core.specs.Chain.{learning, hub, pinned, aging, routing, versions}
 use Rattle.version_line.specs.Line.{active_of}
 use Rattle.app_upgrade.specs.declared.version.Version.{Version}
@@ -19,7 +19,6 @@ abbrev pub IsOverMap : Version → Type 0
 IsOverMap (version.Learning p) = Unit {0}
 IsOverMap _ = ⊥
 
--- parts of the last versions, one at least
+-- parts of the last versions
 pub record AreLast (parts : List Version) : Type 0 where
-  pub some : 0 < length parts
   pub kinds : map kind_in parts ≡ drop (active_of parts) versions

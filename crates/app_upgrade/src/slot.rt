@@ -18,7 +18,7 @@ use std::alloc::{AllocError, Global};
 use version_line::{VERSIONS, active_of, upgrade};
 
 /// A part that is one version of an application, the active one, until an operator asks for a later one. It holds the active
-/// version and those after it.
+/// version and those after it; before it is started it may hold none.
 #[derive(Drop)]
 pub struct Slot {
     parts: Vec<Version>,
@@ -48,18 +48,17 @@ pub fn all_versions(alloc: Global) -> Result<Vec<Version>, AllocError>
     versions_from(alloc, Version::Learning(Learning::new(alloc)))
 }
 
-/// The first of some parts takes an event.
+/// The first of some parts takes an event. Where there is none nothing does.
 fn react_first<P: Part>(
     alloc: Global,
     parts: &mut [P],
     event: &Event,
     out: &mut Commands,
 ) -> Result<bool, AllocError>
-    requires { 0 < length parts.old }
     ensures kinds { map P.kind_of parts.new ≡ map P.kind_of parts.old }
     ensures fit { (s : Setup) → AllFit P.is_fit parts.old s → AllFit P.is_fit parts.new s }
     ensures rest { drop 1 (map P.numbers parts.new) ≡ drop 1 (map P.numbers parts.old) }
-    ensures step { (s : Setup) → AllFit P.is_fit parts.old s → IfOk result (λ stops.
+    ensures step { (s : Setup) → AllFit P.is_fit parts.old s → 0 < length parts.old → IfOk result (λ stops.
         PartSteps (part_next (slice_index_or (map P.kind_of parts.old) 0 0) s (slice_index_or (map P.numbers parts.old) 0 []) event.now) (slice_index_or (map P.numbers parts.new) 0 []) out.old out.new stops) }
     ensures few { (s : Setup) → AllFit P.is_fit parts.old s → OnOk result (length out.new ≤ length out.old + most_given (slice_index_or (map P.kind_of parts.old) 0 0)) }
 {
@@ -82,7 +81,7 @@ fn react_active(
     ensures kinds { map kind_in parts.new.items ≡ map kind_in parts.old.items }
     ensures fit { (s : Setup) → AllFit ⟦<Version as Part>⟧.is_fit parts.old.items s → AllFit ⟦<Version as Part>⟧.is_fit parts.new.items s }
     ensures rest { drop 1 (map ⟦<Version as Part>⟧.numbers parts.new.items) ≡ drop 1 (map ⟦<Version as Part>⟧.numbers parts.old.items) }
-    ensures step { (s : Setup) → AllFit ⟦<Version as Part>⟧.is_fit parts.old.items s → IfOk result (λ stops.
+    ensures step { (s : Setup) → AllFit ⟦<Version as Part>⟧.is_fit parts.old.items s → 0 < length parts.old.items → IfOk result (λ stops.
         PartSteps (part_next (slice_index_or (map kind_in parts.old.items) 0 0) s (slice_index_or (map ⟦<Version as Part>⟧.numbers parts.old.items) 0 []) event.now)
         (slice_index_or (map ⟦<Version as Part>⟧.numbers parts.new.items) 0 []) out.old out.new stops) }
     ensures few { (s : Setup) → AllFit ⟦<Version as Part>⟧.is_fit parts.old.items s → OnOk result (length out.new ≤ length out.old + 64) }
@@ -100,6 +99,15 @@ impl Slot {
         ensures held { parts_in result ≡ parts.items }
     {
         Slot { parts }
+    }
+
+    /// A slot that makes its parts as it starts: those of `all_versions`. It takes no memory before.
+    pub fn unstarted(alloc: Global) -> Slot
+        ensures { parts_in result ≡ [] }
+    {
+        Slot {
+            parts: Vec::new(alloc),
+        }
     }
 
     /// Which version is active.
@@ -127,11 +135,12 @@ impl Part for Slot {
 
     ghost numbers = { λ s. at_version (active_of s.parts.items) (slice_index_or (map ⟦<Version as Part>⟧.numbers s.parts.items) 0 []) };
 
-    // A setup that fits each part. Those behind the first have not begun.
+    // A setup that fits each part, of which there is one at least. Those behind the first have not begun.
     ghost is_fit = { λ s setup.
         AllFit ⟦<Version as Part>⟧.is_fit s.parts.items setup
         × (drop 1 (map ⟦<Version as Part>⟧.numbers s.parts.items) ≡ starting_chain (drop 1 (map kind_in s.parts.items)))
-        × (0 < length setup.ports) };
+        × (0 < length setup.ports)
+        × (0 < length s.parts.items) };
 
     fn kind(&self) -> u8 {
         3
@@ -141,7 +150,7 @@ impl Part for Slot {
         64
     }
 
-    // A slot that is started again, after an upgrade, has new parts of the versions that it dropped.
+    // A slot has new parts where it had none yet, and where it is started again after an upgrade that dropped some.
     fn start(&mut self, alloc: Global, setup: &Setup) -> Result<(), AllocError> {
         if self.parts.len() < VERSIONS {
             self.parts = all_versions(alloc)?;

@@ -1,5 +1,5 @@
 -- The lines of the switches are judged as the audit has it, where no line of the log fails.
-use Rattle.std.proofs.Common.{◌≡◌, ℕ, zero, suc, ◌+◌, Bool, true, false, not, ◌&&◌, ◌||◌, List, ◌∷◌, [], ◌++◌, length, map, take, replicate, Option, Some, None, cond, refl, sym, ap, ◌∙◌, arith}
+use Rattle.std.proofs.Common.{◌≡◌, ℕ, zero, suc, ◌+◌, Bool, true, false, not, ◌&&◌, ◌||◌, List, ◌∷◌, [], ◌++◌, length, map, take, replicate, Option, Some, None, cond, refl, sym, ap, subst, ◌∙◌, arith, Ok}
 use Rattle.std.specs.Prelude.{nat_eq, nat_lt, nat_le, count_by, option_map, if◌then◌else◌}
 use Rattle.std.specs.List.{list_any, find}
 use Rattle.std.proofs.lemmas.Bool.Decides.{nat_tests}
@@ -7,18 +7,24 @@ use Rattle.std.proofs.lemmas.List.{length-replicate}
 use Rattle.of_types.specs.declared.message.Event.{Event}
 use Rattle.of_types.specs.declared.message.Executed.{Executed}
 use Rattle.of_types.specs.declared.message.Order.{Order}
+use Rattle.of_types.specs.Setups.{IsSetup}
 use Rattle.vr_log.specs.declared.entry.Entry.{Entry}
+use Rattle.vr_log.specs.declared.entry.Entry.TheVariants.{Received, Processed}
 use Rattle.vr_log.specs.Log.{received, processed}
 use Rattle.vr_log.specs.Same.{same_event, same_happening}
 use Rattle.app_core.specs.declared.issued.Issued.{Issued}
 use Rattle.app_core.specs.Chain.{concat}
 use Rattle.app_core.specs.Issued.{issues}
+use Rattle.report.specs.declared.outline.Outline.{Outline}
 use Rattle.report.specs.declared.record.Record.{Record}
 use Rattle.report.specs.declared.record.SwitchRecord.{SwitchRecord}
+use Rattle.report.specs.Outline.{bare, outline_of}
+use Rattle.report.specs.Reading.{report_at}
+use Rattle.report.proofs.RecordTaken.{report_takes}
 use Rattle.audit.specs.declared.switch_lines.Committed.{Committed}
-use Rattle.audit.specs.Audit.{is_processed_line, events_fail, differs_from, executed_fails, told_fails, switches_fail, log_fails, lines_before, lines_fail, first_failing}
+use Rattle.audit.specs.Audit.{entry_fails, is_processed_line, events_fail, differs_from, executed_fails, told_fails, switches_fail, log_fails, lines_before, lines_fail, first_failing, differs}
 use Rattle.audit.specs.Issuing.{order_in}
-use Rattle.audit.specs.Judging.{is_below, is_processed_in, events_fail_by, order_fails, executed_fails_by, told_fails_by, switches_fail_by, IsCommittedLog}
+use Rattle.audit.specs.Judging.{is_below, is_processed_in, events_fail_by, order_fails, executed_fails_by, told_fails_by, switches_fail_by, IsCommittedLog, outline_before, outline_fails}
 use Rattle.audit.specs.Names.{Name, same_name, name_of, issued_name}
 use Rattle.audit.specs.Received.{equal_at}
 use Rattle.audit.proofs.Failing.{first_here, first_behind, none_fails}
@@ -118,23 +124,49 @@ length-log_fails : (kinds : List ℕ) (r : Record) (before log : List Entry) →
 length-log_fails kinds r before [] = refl
 length-log_fails kinds r before (e ∷ log) = ap suc (length-log_fails kinds r (before ++ e ∷ []) log)
 
-module _ (kinds : List ℕ) (r : Record) where
-  pub first_is : first_failing 1 (lines_fail kinds r) ≡ first_failing (lines_before r + 1) (log_fails kinds r [] r.log ++ switches_fail kinds r 0 r.switches)
-  unfolding lines_fail
+module _ (kinds : List ℕ) (o : Outline) where
+  pub first_is : first_failing 1 (outline_fails kinds o) ≡ first_failing (outline_before o + 1) (log_fails kinds o.bare [] o.bare.log ++ switches_fail kinds o.bare 0 o.bare.switches)
   first_is =
-      first_behind 1 (replicate (lines_before r) false) (log_fails kinds r [] r.log ++ switches_fail kinds r 0 r.switches) (none_fails 1 (lines_before r))
-      ∙ ap (λ (n : ℕ). first_failing n (log_fails kinds r [] r.log ++ switches_fail kinds r 0 r.switches)) (let e = length-replicate {A = Bool} (lines_before r) false in omega (arith, e))
+      first_behind 1 (replicate (outline_before o) false) (log_fails kinds o.bare [] o.bare.log ++ switches_fail kinds o.bare 0 o.bare.switches) (none_fails 1 (outline_before o))
+      ∙ ap (λ (n : ℕ). first_failing n (log_fails kinds o.bare [] o.bare.log ++ switches_fail kinds o.bare 0 o.bare.switches)) (let e = length-replicate {A = Bool} (outline_before o) false in omega (arith, e))
 
-  pub log_first : (line n : ℕ) (found : Option ℕ) → line ≡ lines_before r + 1 → found ≡ first_failing line (log_fails kinds r [] r.log) → found ≡ Some n → Some n ≡ first_failing 1 (lines_fail kinds r)
+  pub log_first : (line n : ℕ) (found : Option ℕ) → line ≡ outline_before o + 1 → found ≡ first_failing line (log_fails kinds o.bare [] o.bare.log) → found ≡ Some n → Some n ≡ first_failing 1 (outline_fails kinds o)
   log_first line n found from is some =
-      sym (first_is ∙ ap (λ (m : ℕ). first_failing m (log_fails kinds r [] r.log ++ switches_fail kinds r 0 r.switches)) (sym from)
-      ∙ first_here line n (log_fails kinds r [] r.log) (switches_fail kinds r 0 r.switches) (sym is ∙ some))
+      sym (first_is ∙ ap (λ (m : ℕ). first_failing m (log_fails kinds o.bare [] o.bare.log ++ switches_fail kinds o.bare 0 o.bare.switches)) (sym from)
+      ∙ first_here line n (log_fails kinds o.bare [] o.bare.log) (switches_fail kinds o.bare 0 o.bare.switches) (sym is ∙ some))
 
-  pub switches_first : (line switches : ℕ) (found : Option ℕ) (c : Committed) → line ≡ lines_before r + 1 → found ≡ first_failing line (log_fails kinds r [] r.log) → found ≡ None →
-      switches ≡ line + length r.log → IsCommittedLog kinds r c → first_failing switches (switches_fail_by c 0 r.switches) ≡ first_failing 1 (lines_fail kinds r)
+  pub switches_first : (line switches : ℕ) (found : Option ℕ) (c : Committed) → line ≡ outline_before o + 1 → found ≡ first_failing line (log_fails kinds o.bare [] o.bare.log) → found ≡ None →
+      switches ≡ line + length o.bare.log → IsCommittedLog kinds o.bare c → first_failing switches (switches_fail_by c 0 o.bare.switches) ≡ first_failing 1 (outline_fails kinds o)
   switches_first line switches found c from is none next committed =
-      let sound = sound_all kinds r line [] r.log (sym is ∙ none) nothing_sound in
-      ap (λ (l : List Bool). first_failing switches l) (switches_are kinds r c committed sound 0 r.switches)
-      ∙ ap (λ (n : ℕ). first_failing n (switches_fail kinds r 0 r.switches)) (next ∙ ap (λ (n : ℕ). line + n) (sym (length-log_fails kinds r [] r.log)))
-      ∙ sym (first_is ∙ ap (λ (m : ℕ). first_failing m (log_fails kinds r [] r.log ++ switches_fail kinds r 0 r.switches)) (sym from)
-      ∙ first_behind line (log_fails kinds r [] r.log) (switches_fail kinds r 0 r.switches) (sym is ∙ none))
+      let sound = sound_all kinds o.bare line [] o.bare.log (sym is ∙ none) nothing_sound in
+      ap (λ (l : List Bool). first_failing switches l) (switches_are kinds o.bare c committed sound 0 o.bare.switches)
+      ∙ ap (λ (n : ℕ). first_failing n (switches_fail kinds o.bare 0 o.bare.switches)) (next ∙ ap (λ (n : ℕ). line + n) (sym (length-log_fails kinds o.bare [] o.bare.log)))
+      ∙ sym (first_is ∙ ap (λ (m : ℕ). first_failing m (log_fails kinds o.bare [] o.bare.log ++ switches_fail kinds o.bare 0 o.bare.switches)) (sym from)
+      ∙ first_behind line (log_fails kinds o.bare [] o.bare.log) (switches_fail kinds o.bare 0 o.bare.switches) (sym is ∙ none))
+
+-- ---- a report by its outline
+
+log_same : (kinds : List ℕ) (r : Record) (before log : List Entry) → log_fails kinds (bare r) before log ≡ log_fails kinds r before log
+log_same kinds r before [] = refl
+log_same kinds r before (Received e ∷ log) = ap (λ (l : List Bool). entry_fails kinds r before (Received e) ∷ l) (log_same kinds r (before ++ Received e ∷ []) log)
+log_same kinds r before (Processed j ∷ log) = ap (λ (l : List Bool). entry_fails kinds r before (Processed j) ∷ l) (log_same kinds r (before ++ Processed j ∷ []) log)
+
+switches_same : (kinds : List ℕ) (r : Record) (switch : ℕ) (switches : List SwitchRecord) → switches_fail kinds (bare r) switch switches ≡ switches_fail kinds r switch switches
+switches_same kinds r switch [] = refl
+switches_same kinds r switch (t ∷ switches) = ap (λ (l : List Bool). told_fails kinds r switch t ++ l) (switches_same kinds r (switch + 1) switches)
+
+pub outline_same : (kinds : List ℕ) (r : Record) → outline_fails kinds (outline_of r) ≡ lines_fail kinds r
+unfolding lines_fail
+outline_same kinds r =
+    ap (λ (l : List Bool). replicate (lines_before r) false ++ (l ++ switches_fail kinds (bare r) 0 r.switches)) (log_same kinds r [] r.log)
+    ∙ ap (λ (l : List Bool). replicate (lines_before r) false ++ (log_fails kinds r [] r.log ++ l)) (switches_same kinds r 0 r.switches)
+
+module _ (bytes : List ℕ) (o : Outline) (r : Record) (read : report_at bytes ≡ Ok r) (is : o ≡ outline_of r) where
+  pub outline_setup : IsSetup o.bare.setup
+  outline_setup = subst (λ (o : Outline). IsSetup o.bare.setup) (sym is) (report_takes bytes r read).0.setup
+
+  pub outline_differs : (kinds : List ℕ) → first_failing 1 (outline_fails kinds o) ≡ differs kinds bytes
+  unfolding differs
+  outline_differs kinds =
+      let same : first_failing 1 (lines_fail kinds r) ≡ differs kinds bytes = rw (differs, read) refl in
+      ap (λ (o : Outline). first_failing 1 (outline_fails kinds o)) is ∙ ap (λ (l : List Bool). first_failing 1 l) (outline_same kinds r) ∙ same

@@ -6,8 +6,6 @@ use Rattle.of_types.specs.declared.message.Event.{Event}
 use Rattle.of_types.specs.declared.message.Executed.{Executed}
 use Rattle.of_types.specs.declared.message.Order.{Order}
 use Rattle.of_types.specs.Lives.{has_ended}
-use Rattle.journal.specs.declared.journal.JournalEntry.{JournalEntry}
-use Rattle.journal.specs.declared.journal.JournalEntry.TheVariants as entry
 use Rattle.vr_log.specs.declared.entry.Entry.{Entry}
 use Rattle.vr_log.specs.declared.entry.Entry.TheVariants.{Received, Processed}
 use Rattle.vr_log.specs.Log.{received, processed, may_follow}
@@ -17,6 +15,7 @@ use Rattle.app_core.specs.Chain.{concat}
 use Rattle.app_core.specs.Issued.{issues, commands_of}
 use Rattle.report.specs.declared.record.Record.{Record}
 use Rattle.report.specs.declared.record.SwitchRecord.{SwitchRecord}
+use Rattle.report.specs.Outline.{count_entry_lines}
 use Rattle.report.specs.Reading.{report_at}
 use Rattle.audit.specs.declared.auditing.Verdict.{Verdict}
 use Rattle.audit.specs.declared.auditing.Verdict.TheVariants.{Same, Differs}
@@ -80,11 +79,6 @@ switches_fail kinds r switch [] = []
 switches_fail kinds r switch (t ∷ switches) = told_fails kinds r switch t ++ switches_fail kinds r (switch + 1) switches
 
 -- ---- the report
-
-abbrev pub count_entry_lines : JournalEntry (List ℕ) → ℕ
-count_entry_lines (entry.Post actor first letters lost) = 1 + length letters
-count_entry_lines (entry.Refused actor) = 0
-count_entry_lines e = 1
 
 -- how many lines there are up to that of the log: two, those of the setup and of the journal, and its own
 abbrev pub lines_before : Record → ℕ

@@ -9,11 +9,13 @@ use Rattle.vr_log.specs.declared.entry.Entry.TheVariants.{Received, Processed}
 use Rattle.vr_log.specs.Log.{received, processed}
 use Rattle.app_core.specs.Chain.{concat}
 use Rattle.app_core.specs.Issued.{issues}
+use Rattle.report.specs.declared.outline.Outline.{Outline}
 use Rattle.report.specs.declared.record.Record.{Record}
 use Rattle.report.specs.declared.record.SwitchRecord.{SwitchRecord}
 use Rattle.audit.specs.declared.following.Following.{Following}
 use Rattle.audit.specs.declared.evidence.Evidence.{Evidence}
 use Rattle.audit.specs.declared.switch_lines.Committed.{Committed}
+use Rattle.audit.specs.Audit.{log_fails, switches_fail}
 use Rattle.audit.specs.Following.{may_go_behind, has_begun}
 use Rattle.audit.specs.Issuing.{HoldsOrders}
 use Rattle.audit.specs.Names.{Name, same_name, issued_name, value_of}
@@ -87,3 +89,12 @@ told_fails_by c switch t =
 abbrev pub switches_fail_by : Committed → ℕ → List SwitchRecord → List Bool
 switches_fail_by c switch [] = []
 switches_fail_by c switch (t ∷ switches) = told_fails_by c switch t ++ switches_fail_by c (switch + 1) switches
+
+-- how many lines of an outline there are up to that of the log
+abbrev pub outline_before : Outline → ℕ
+outline_before o = 3 + length o.bare.setup.ports + length o.bare.setup.links + length o.bare.setup.deny + o.journal_lines
+
+-- whether each of its lines fails, of all but the last one
+abbrev pub outline_fails : List ℕ → Outline → List Bool
+outline_fails kinds o =
+    replicate (outline_before o) false ++ (log_fails kinds o.bare [] o.bare.log ++ switches_fail kinds o.bare 0 o.bare.switches)

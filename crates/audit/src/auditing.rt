@@ -1,8 +1,8 @@
 //! The audit of a report.
-ghost use Rattle.std.specs.Prelude.{◌≡◌, ◌+◌, ℕ, List, sum_by, IfOk};
+ghost use Rattle.std.specs.Prelude.{◌≡◌, ◌+◌, ℕ, List, IfOk};
 ghost use Rattle.of_types.specs.Setups.{IsSetup};
-ghost use Rattle.audit.specs.Audit.{count_entry_lines, lines_before, lines_fail, first_failing, differs, verdict_of};
-ghost use Rattle.audit.specs.Judging.{IsEvidence, IsCommittedLog};
+ghost use Rattle.audit.specs.Audit.{first_failing, differs, verdict_of};
+ghost use Rattle.audit.specs.Judging.{IsEvidence, IsCommittedLog, outline_before, outline_fails};
 
 use crate::counting::add;
 use crate::evidence::{Evidence, executed_names, told_events};
@@ -11,10 +11,9 @@ use crate::log_lines::first_of_log;
 use crate::received::events_of;
 use crate::switch_lines::{Committed, first_of_switches};
 use app_core::App;
-use journal::JournalEntry;
 use of_types::Octets;
 use plain_controller::Single;
-use report::{Record, ReportFault, read_report};
+use report::{Outline, Record, ReportFault, read_outline};
 use std::alloc::{AllocError, Global};
 
 /// What an audit finds.
@@ -26,34 +25,15 @@ pub enum Verdict {
     Differs { line: u64 },
 }
 
-fn lines_of_entry(entry: &JournalEntry<Octets>) -> Result<u64, AllocError>
-    ensures { IfOk result (λ lines. lines ≡ count_entry_lines entry.now) }
-{
-    match entry {
-        JournalEntry::Post { letters, .. } => add(1, letters.len() as u64),
-        JournalEntry::Refused { .. } => Ok(0),
-        _ => Ok(1),
-    }
-}
-
-fn lines_of_journal(journal: &[JournalEntry<Octets>]) -> Result<u64, AllocError>
-    ensures { IfOk result (λ lines. lines ≡ sum_by count_entry_lines journal.now) }
-{
-    let mut lines = 0;
-    for entry in journal {
-        lines = add(lines, lines_of_entry(entry)?)?;
-    }
-    Ok(lines)
-}
-
 /// How many lines there are up to that of the log.
-fn lines_before(lines: &Record) -> Result<u64, AllocError>
-    ensures { IfOk result (λ count. count ≡ lines_before lines.now) }
+fn lines_before(outline: &Outline) -> Result<u64, AllocError>
+    ensures { IfOk result (λ count. count ≡ outline_before outline.now) }
 {
-    let ports = add(3, lines.setup.ports.len() as u64)?;
-    let links = add(ports, lines.setup.links.len() as u64)?;
-    let rules = add(links, lines.setup.deny.len() as u64)?;
-    add(rules, lines_of_journal(lines.journal.as_slice())?)
+    let setup = &outline.bare.setup;
+    let ports = add(3, setup.ports.len() as u64)?;
+    let links = add(ports, setup.links.len() as u64)?;
+    let rules = add(links, setup.deny.len() as u64)?;
+    add(rules, outline.journal_lines)
 }
 
 /// What the lines of the log, and what those of the switches are judged by.
@@ -87,16 +67,17 @@ fn gather<A: App>(
     ))
 }
 
-/// The first line of a record that fails, by what its lines are judged by.
+/// The first line of an outline that fails, by what its lines are judged by.
 fn first_judged(
-    lines: &Record,
+    outline: &Outline,
     evidence: &Evidence,
     committed: &Committed,
 ) -> Result<Option<u64>, AllocError>
-    ensures { (kinds : List ℕ) → IsEvidence kinds lines.now evidence.now → IsCommittedLog kinds lines.now committed.now →
-        IfOk result (λ first. first ≡ first_failing 1 (lines_fail kinds lines.now)) }
+    ensures { (kinds : List ℕ) → IsEvidence kinds outline.now.bare evidence.now → IsCommittedLog kinds outline.now.bare committed.now →
+        IfOk result (λ first. first ≡ first_failing 1 (outline_fails kinds outline.now)) }
 {
-    let entries = add(lines_before(lines)?, 1)?;
+    let lines = &outline.bare;
+    let entries = add(lines_before(outline)?, 1)?;
     match first_of_log(entries, lines.log.as_slice(), evidence)? {
         Some(first) => Ok(Some(first)),
         None => {
@@ -106,17 +87,17 @@ fn first_judged(
     }
 }
 
-/// The first line of a record that fails.
-fn first_of_record<A: App>(
+/// The first line of an outline that fails.
+fn first_of_outline<A: App>(
     alloc: Global,
-    lines: &Record,
+    outline: &Outline,
     app: &mut A,
 ) -> Result<Option<u64>, AllocError>
-    requires { IsSetup lines.now.setup }
-    ensures { IfOk result (λ first. first ≡ first_failing 1 (lines_fail (A.law.kinds app.old) lines.now)) }
+    requires { IsSetup outline.now.bare.setup }
+    ensures { IfOk result (λ first. first ≡ first_failing 1 (outline_fails (A.law.kinds app.old) outline.now)) }
 {
-    let (evidence, committed) = gather(alloc, lines, app)?;
-    first_judged(lines, &evidence, &committed)
+    let (evidence, committed) = gather(alloc, &outline.bare, app)?;
+    first_judged(outline, &evidence, &committed)
 }
 
 fn verdict_of(first: Option<u64>) -> Verdict
@@ -134,10 +115,10 @@ fn verdict_of(first: Option<u64>) -> Verdict
 pub fn check<A: App>(alloc: Global, bytes: Octets, app: &mut A) -> Result<Verdict, AllocError>
     ensures { IfOk result (λ verdict. verdict ≡ verdict_of (differs (A.law.kinds app.old) bytes)) }
 {
-    match read_report(alloc, bytes.as_slice()) {
-        Ok(record) => {
+    match read_outline(alloc, bytes.as_slice()) {
+        Ok(outline) => {
             drop(bytes);
-            Ok(verdict_of(first_of_record(alloc, &record, app)?))
+            Ok(verdict_of(first_of_outline(alloc, &outline, app)?))
         }
         Err(ReportFault::NotText { line }) => Ok(Verdict::Differs { line }),
         Err(ReportFault::OutOfMemory) => Err(AllocError),

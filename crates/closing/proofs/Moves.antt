@@ -63,6 +63,18 @@ same_self (actor.Switch s) = eq-eqb s s refl
 picked_first : {B : Type 0} (p : Packet B) (others : List (Packet B)) → chosen 0 (waiting p.to (p ∷ others)) ≡ Some p
 picked_first p others = rw (same_self p.to, zero-mod (length (p ∷ waiting p.to others))) refl
 
+-- and so the one of its first choice
+pub first_is_picked : {B : Type 0} (place : PacketPlace) (journal : List (JournalEntry B)) → IsFirst place journal → IsFound journal (Some place) (pick place.to 0 (past journal))
+first_is_picked {B = B} place journal first = by_pool (pool (past journal)) refl
+  where
+    by_pool : (packets : List (Packet B)) → pool (past journal) ≡ packets → IsFound journal (Some place) (pick place.to 0 (past journal))
+    by_pool [] is = absurd (subst (λ l. IsFound journal (Some place) (slice_get l 0)) is first)
+    by_pool (p ∷ others) is =
+        let found = subst (λ l. IsFound journal (Some place) (slice_get l 0)) is first in
+        let picked : pick place.to 0 (past journal) ≡ Some p =
+        ap (λ (l : List (Packet B)). chosen 0 (waiting place.to l)) is ∙ ap (λ (a : Actor). chosen 0 (waiting a (p ∷ others))) found.to_is ∙ picked_first p others in
+        subst (λ (o : Option (Packet B)). IsFound journal (Some place) o) (sym picked) found
+
 module _ {B : Type 0} (place : PacketPlace) (entries : List (JournalEntry B)) (f : First place entries) where
   picked : pick place.to 0 entries ≡ Some f.packet
   picked = ap (λ l. chosen 0 (waiting place.to l)) f.pool_is ∙ ap (λ a. chosen 0 (waiting a (f.packet ∷ f.others))) f.to_is ∙ picked_first f.packet f.others

@@ -95,7 +95,7 @@ pub fn lose_first<B: Body, A: App, W: Stable>(
         actor: place.to,
         choice: 0,
     };
-    let result = world.apply(stables, &turn);
+    let result = world.take(stables, turn);
     world.lawful();
     result
 }
@@ -120,7 +120,7 @@ pub fn suspect_next<B: Body, A: App, W: Stable>(
 {
     let actor = Actor::Controller(number);
     let input = Local::Suspect { view };
-    world.apply(stables, &Turn::Local { actor, input })?;
+    world.take(stables, Turn::Local { actor, input })?;
     Ok(came_at(world, view, actor))
 }
 
@@ -146,15 +146,9 @@ pub fn draw_first<B: Body, A: App, W: Stable>(
     ensures less { OnOk result (HasLessLeft world.old world.new) }
 {
     lawful(world);
-    let actor = place.to;
-    let turn = Turn::Draw {
-        actor,
-        choice: 0,
-        keep: false,
-    };
-    world.apply(stables, &turn)?;
+    world.draw_first(stables, place)?;
     world.lawful();
-    Ok(came_at(world, view, actor))
+    Ok(came_at(world, view, place.to))
 }
 
 /// Whether a packet of this route is drawn.

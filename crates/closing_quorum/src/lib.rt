@@ -12,7 +12,7 @@ use std::alloc::{AllocError, Global};
 pub fn has(numbers: &[u8], number: u8) -> bool
     ensures { result ≡ list_any (λ m. nat_eq m number) numbers.now }
 {
-    numbers.contains(&number)
+    numbers.iter().any(|one| *one == number)
 }
 
 /// The least view from here on whose primary takes part.

@@ -1,9 +1,11 @@
 //! The commands of the first event that is not processed.
 ghost use Rattle.std.specs.Prelude.{◌≡◌, ◌<◌, ◌≤◌, ℕ, false, ◌&&◌, map, filter, nat_eq, nat_lt, get_or, length, IfOk};
 ghost use Rattle.std.specs.List.{list_any, range_with_len};
+ghost use Rattle.dispatcher.specs.Few.{values_in};
 ghost use Rattle.dispatcher.specs.Ledger.{as_numbered, cleared_of_life, first_commands, has_told, is_addressed, is_outstanding, wants};
 
 use crate::answers::AckThrough;
+use crate::few::Few;
 use crate::ledger::Ledger;
 use crate::marks::ViewMarks;
 use crate::numbered::NumberedOrder;
@@ -31,13 +33,13 @@ pub(crate) fn outstanding(
     alloc: Global,
     ledger: &Ledger,
     marks: &ViewMarks,
-) -> Result<Vec<NumberedOrder>, AllocError>
-    ensures { IfOk result (λ list. list.items ≡ map (as_numbered ledger.now) (filter (is_outstanding ledger.now marks.now.marks) (first_commands ledger.now.pending.items))) }
+) -> Result<Few<NumberedOrder>, AllocError>
+    ensures { IfOk result (λ list. values_in list ≡ map (as_numbered ledger.now) (filter (is_outstanding ledger.now marks.now.marks) (first_commands ledger.now.pending.items))) }
 {
-    let mut list = Vec::new(alloc);
+    let mut list = Few::Nothing;
     for command in ledger.first() {
         if is_outstanding(ledger, marks, command) {
-            list.push(number(ledger, command)?)?;
+            list.push(alloc, number(ledger, command)?)?;
         }
     }
     Ok(list)
@@ -49,13 +51,13 @@ pub(crate) fn outstanding_on(
     switch: u8,
     ledger: &Ledger,
     marks: &ViewMarks,
-) -> Result<Vec<NumberedOrder>, AllocError>
-    ensures { IfOk result (λ list. list.items ≡ map (as_numbered ledger.now) (filter (λ x. is_outstanding ledger.now marks.now.marks x && nat_eq x.switch switch) (first_commands ledger.now.pending.items))) }
+) -> Result<Few<NumberedOrder>, AllocError>
+    ensures { IfOk result (λ list. values_in list ≡ map (as_numbered ledger.now) (filter (λ x. is_outstanding ledger.now marks.now.marks x && nat_eq x.switch switch) (first_commands ledger.now.pending.items))) }
 {
-    let mut list = Vec::new(alloc);
+    let mut list = Few::Nothing;
     for command in ledger.first() {
         if is_outstanding(ledger, marks, command) && command.switch == switch {
-            list.push(number(ledger, command)?)?;
+            list.push(alloc, number(ledger, command)?)?;
         }
     }
     Ok(list)
@@ -67,15 +69,15 @@ pub(crate) fn clears(
     switches: u8,
     ledger: &Ledger,
     commands: &[Issued],
-) -> Result<Vec<AckThrough>, AllocError>
-    ensures { IfOk result (λ list. list.items ≡ map (cleared_of_life ledger.now) (filter (has_told ledger.now commands.now) (range_with_len 0 switches))) }
+) -> Result<Few<AckThrough>, AllocError>
+    ensures { IfOk result (λ list. values_in list ≡ map (cleared_of_life ledger.now) (filter (has_told ledger.now commands.now) (range_with_len 0 switches))) }
 {
     let told = told_switches(ledger, commands);
     let (first, end) = span_of(switches, commands);
-    let mut list = Vec::new(alloc);
+    let mut list = Few::Nothing;
     for switch in first..end {
         if told[usize::from(switch)] {
-            list.push(cleared(ledger, switch))?;
+            list.push(alloc, cleared(ledger, switch))?;
         }
     }
     Ok(list)

@@ -9,12 +9,14 @@ ghost use Rattle.vr_log.specs.Log.{fits, follows, received, processed};
 ghost use Rattle.two_stage_log.specs.Counts as counts;
 ghost use Rattle.dispatcher.specs.Folding as folding;
 ghost use Rattle.dispatcher.specs.Folding.{numbered, places_processed, wish};
+ghost use Rattle.dispatcher.specs.Few.{values_in};
 ghost use Rattle.dispatcher.specs.Ledger.{AreHandledAt, ForEachLog, StandsFor, handled_by, most_commands};
 ghost use Rattle.dispatcher.specs.Marks as marks;
 ghost use Rattle.dispatcher.specs.Marks.{confirmed_by, is_confirmed, is_finished, is_pending, no_marks, with_marked_result};
 
 use crate::answers::{AckThrough, EventAction, HandledEvent};
 use crate::commands;
+use crate::few::Few;
 use crate::ledger::Ledger;
 use crate::marks::ViewMarks;
 use crate::numbered::NumberedOrder;
@@ -204,17 +206,17 @@ impl<A: App> Dispatcher<A> {
     }
 
     /// The commands of the first unprocessed event that want a result, on confirmed switches, in the order of issue.
-    pub fn outstanding(&self) -> Result<Vec<NumberedOrder>, AllocError>
+    pub fn outstanding(&self) -> Result<Few<NumberedOrder>, AllocError>
         ensures { ForEachLog (StandsFor A.law self.now) (λ kinds setup log.
-            IfOk result (λ list. list.items ≡ map (numbered kinds setup log) (marks.outstanding kinds setup log self.now.marks))) }
+            IfOk result (λ list. values_in list ≡ map (numbered kinds setup log) (marks.outstanding kinds setup log self.now.marks))) }
     {
         commands::outstanding(self.alloc, &self.ledger, &self.marks)
     }
 
     /// Those of them on one switch.
-    pub fn outstanding_on(&self, switch: u8) -> Result<Vec<NumberedOrder>, AllocError>
+    pub fn outstanding_on(&self, switch: u8) -> Result<Few<NumberedOrder>, AllocError>
         ensures { ForEachLog (StandsFor A.law self.now) (λ kinds setup log.
-            IfOk result (λ list. list.items ≡ map (numbered kinds setup log) (filter (λ x. nat_eq x.switch switch) (marks.outstanding kinds setup log self.now.marks)))) }
+            IfOk result (λ list. values_in list ≡ map (numbered kinds setup log) (filter (λ x. nat_eq x.switch switch) (marks.outstanding kinds setup log self.now.marks)))) }
     {
         commands::outstanding_on(self.alloc, switch, &self.ledger, &self.marks)
     }
@@ -247,9 +249,9 @@ impl<A: App> Dispatcher<A> {
 
     /// What is told to each switch whose present life has a command of an event that is processed, ascending: so
     /// many commands of that life are settled.
-    pub fn clears(&self, handled: &HandledEvent) -> Result<Vec<AckThrough>, AllocError>
+    pub fn clears(&self, handled: &HandledEvent) -> Result<Few<AckThrough>, AllocError>
         ensures { ForEachLog (StandsFor A.law self.now) (λ kinds setup log.
-            IfOk result (λ list. list.items ≡ folding.clears kinds setup log handled.now.commands)) }
+            IfOk result (λ list. values_in list ≡ folding.clears kinds setup log handled.now.commands)) }
     {
         commands::clears(
             self.alloc,

@@ -6,6 +6,7 @@ mod answers;
 mod commands;
 mod counts;
 mod dispatcher;
+mod few;
 mod highest;
 mod ledger;
 mod lives;
@@ -14,4 +15,5 @@ mod numbered;
 
 pub use answers::{AckThrough, EventAction, HandledEvent};
 pub use dispatcher::Dispatcher;
+pub use few::Few;
 pub use numbered::NumberedOrder;

@@ -3,12 +3,10 @@ ghost use Rattle.std.specs.Prelude.{◌≡◌, ◌≤◌, ◌<◌, ◌-◌, ◌^
 ghost use Rattle.std.specs.List.{list_any};
 ghost use Rattle.event_buffer.specs.Buffer.{highest_port, empty_buffer, next_number, full, is_full, with_posted, cleared_to, without_events_below, with_dirty, without_dirty, IsBuffer};
 
-use of_types::{Event, Happening, SmallSet};
+use crate::held::{HeldEvents, MOST_HELD};
+use of_types::{Event, Happening};
 use std::alloc::{AllocError, Global};
 use std::marker::Model;
-
-/// The most events that are held.
-pub const MOST_HELD: usize = 256;
 
 /// The most events that have left and still stand at the front of the buffer. They are dropped together, since each
 /// drop there moves all events that are held.
@@ -21,32 +19,24 @@ pub struct Full;
 /// The events of one life of a switch that wait to be processed, and the ports whose change found no room.
 #[derive(Drop)]
 pub struct EventBuffer {
-    /// Whose events they are.
-    switch: u8,
-    /// The life that makes them.
-    life: u32,
-    /// How many events of this life have left the buffer. The first that it holds has this number.
-    cleared: u64,
+    /// How many events wait, and the ports.
+    held: HeldEvents,
     /// Events that have left, and behind them those that wait, without a gap in their numbers.
     events: Vec<Event>,
-    /// How many of these events have left.
-    gone: usize,
-    /// The ports whose change found no room.
-    dirty: SmallSet,
 }
 
 impl Model for EventBuffer {
-    ghost use Rattle.std.specs.Prelude.{◌≤◌, ◌+◌, ◌<◌, ◌^◌, drop, length, vec_capacity};
-    ghost use Rattle.event_buffer.specs.Buffer.{Buffer, IsBuffer};
+    ghost use Rattle.std.specs.Prelude.{◌≤◌, ◌+◌, ◌<◌, length, vec_capacity};
+    ghost use Rattle.event_buffer.specs.Buffer.{Buffer, AreNumbered, buffer_of, newest};
 
     ghost Value = { Buffer };
 
-    ghost view = { λ a. record { switch = a.switch; life = a.life; cleared = a.cleared; held = drop a.gone a.events.items; dirty = a.dirty } };
+    ghost view = { λ a. buffer_of a.held a.events.items };
 
     ghost invariant = { λ a.
-        IsBuffer (record { switch = a.switch; life = a.life; cleared = a.cleared; held = drop a.gone a.events.items; dirty = a.dirty })
-        × (256 + 32 ≤ vec_capacity a.events) × (a.gone ≤ length a.events.items) × (a.gone < 32)
-        × (a.cleared + length (drop a.gone a.events.items) < 2 ^ 64) };
+        AreNumbered a.held.switch a.held.life a.held.cleared (newest a.held.count a.events.items)
+        × (256 + 32 ≤ vec_capacity a.events)
+        × (a.held.count ≤ length a.events.items) × (length a.events.items < a.held.count + 32) };
 }
 
 impl EventBuffer {
@@ -55,12 +45,8 @@ impl EventBuffer {
         ensures { IfOk result (λ b. b ≡ empty_buffer switch life) }
     {
         Ok(EventBuffer {
-            switch,
-            life,
-            cleared: 0,
+            held: HeldEvents::new(switch, life),
             events: Vec::with_capacity(alloc, MOST_HELD + MOST_GONE)?,
-            gone: 0,
-            dirty: SmallSet::new(),
         })
     }
 
@@ -75,12 +61,13 @@ impl EventBuffer {
         }
         let number = self.next_number();
         let event = Event {
-            switch: self.switch,
-            life: self.life,
+            switch: self.switch(),
+            life: self.life(),
             number,
             what,
         };
         push_within(&mut self.events, event);
+        self.held.add(1);
         Ok(number)
     }
 
@@ -88,7 +75,7 @@ impl EventBuffer {
     pub fn is_full(&self) -> bool
         ensures { result ≡ is_full self.now }
     {
-        self.held().len() >= MOST_HELD
+        self.held.is_full()
     }
 
     /// Remembers a port.
@@ -96,7 +83,7 @@ impl EventBuffer {
         requires { (1 ≤ port) × (port ≤ highest_port) }
         ensures { self.new ≡ with_dirty self.old port }
     {
-        self.dirty.insert(port as u8);
+        self.held.mark_dirty(port);
     }
 
     /// Forgets a port.
@@ -104,7 +91,7 @@ impl EventBuffer {
         requires { (1 ≤ port) × (port ≤ highest_port) }
         ensures { self.new ≡ without_dirty self.old port }
     {
-        self.dirty.remove(port as u8);
+        self.held.forget_dirty(port);
     }
 
     /// Drops the events below a number, and tells how many.
@@ -113,13 +100,10 @@ impl EventBuffer {
         ensures after { self.new ≡ without_events_below self.old through }
         ensures count { result ≡ cleared_to self.old through - self.old.cleared }
     {
-        let cleared = self.cleared.max(through.min(self.next_number()));
-        let count = cleared - self.cleared;
-        self.gone += count as usize;
-        self.cleared = cleared;
-        if self.gone >= MOST_GONE {
-            drop_front(&mut self.events, self.gone);
-            self.gone = 0;
+        let count = self.held.clear(through);
+        let gone = self.events.len() - self.held.count();
+        if gone >= MOST_GONE {
+            drop_front(&mut self.events, gone);
         }
         count
     }
@@ -136,7 +120,7 @@ impl EventBuffer {
         ensures events { result.now ≡ self.now.held }
         ensures lawful { IsBuffer self.now }
     {
-        &self.events[self.gone..]
+        self.held.among(&self.events)
     }
 
     /// Copies of the held events, the lowest number first.
@@ -155,28 +139,28 @@ impl EventBuffer {
     pub fn next_number(&self) -> u64
         ensures { result ≡ next_number self.now }
     {
-        self.cleared + self.held().len() as u64
+        self.held.next_number()
     }
 
     /// The switch whose events it holds.
     pub fn switch(&self) -> u8
         ensures { result ≡ self.now.switch }
     {
-        self.switch
+        self.held.switch()
     }
 
     /// The life whose events it holds.
     pub fn life(&self) -> u32
         ensures { result ≡ self.now.life }
     {
-        self.life
+        self.held.life()
     }
 
     /// How many events have left.
     pub fn cleared(&self) -> u64
         ensures { result ≡ self.now.cleared }
     {
-        self.cleared
+        self.held.cleared()
     }
 
     /// Whether a port is remembered.
@@ -184,14 +168,14 @@ impl EventBuffer {
         requires { (1 ≤ port) × (port ≤ highest_port) }
         ensures { result ≡ list_any (λ p. nat_eq p port) self.now.dirty }
     {
-        self.dirty.contains(port as u8)
+        self.held.is_dirty(port)
     }
 
     /// Whether any port is remembered.
     pub fn has_dirty(&self) -> bool
         ensures { result ≡ nat_lt 0 (length self.now.dirty) }
     {
-        !self.dirty.is_empty()
+        self.held.has_dirty()
     }
 
     /// The ports that are remembered, ascending.
@@ -199,13 +183,7 @@ impl EventBuffer {
         ensures ports { IfOk result (λ ports. ports.items ≡ self.now.dirty) }
         ensures lawful { IsBuffer self.now }
     {
-        let alloc = *self.events.allocator();
-        let ports = self.dirty.to_vec(alloc)?;
-        let mut wide = Vec::with_capacity(alloc, ports.len())?;
-        for port in &ports {
-            wide.push(u32::from(*port))?;
-        }
-        Ok(wide)
+        self.held.dirty(*self.events.allocator())
     }
 }
 

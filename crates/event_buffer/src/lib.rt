@@ -2,5 +2,7 @@
 #![tactic(auto)]
 
 mod buffer;
+mod held;
 
-pub use buffer::{EventBuffer, Full, MOST_HELD};
+pub use buffer::{EventBuffer, Full};
+pub use held::{HeldEvents, MOST_HELD};

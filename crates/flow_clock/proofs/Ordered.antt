@@ -10,7 +10,7 @@ use Rattle.flow_table.specs.Table.{row_of, same_key, is_add, is_named, is_delete
 use Rattle.flow_clock.specs.declared.times.Key.{Key}
 use Rattle.flow_clock.specs.History.{TableDeed, Changed, Ticked, Met, Standing, is_time_over, with_standing, added_by, standing_modified, standing_by, standing_after}
 use Rattle.flow_clock.specs.Clocked.{key_of}
-use Rattle.flow_clock.specs.Stands.{is_taken, keys_of, JoinsInOrder, StayInOrder, is_adding, has_replaced, AreInOrder}
+use Rattle.flow_clock.specs.Stands.{is_key_taken, keys_of, JoinsInOrder, StayInOrder, is_adding, has_replaced, AreInOrder}
 use Rattle.flow_table.proofs.Keys.{key_is, unlike}
 use Rattle.flow_clock.proofs.Held.{AreEarly, all_map, all_filter, early}
 
@@ -19,19 +19,19 @@ use Rattle.flow_clock.proofs.Held.{AreEarly, all_map, all_filter, early}
 key_same : (a b : Row) → same_key a b ≡ true → key_of b ≡ key_of a
 key_same a b same = let k = key_is a b same in rw (k.priority, k.matching) refl
 
-joins_in_place : (xs : List Standing) (new : Standing) → is_taken xs new.row ≡ true → keys_of (with_standing xs new) ≡ keys_of xs
+joins_in_place : (xs : List Standing) (new : Standing) → is_key_taken xs new.row ≡ true → keys_of (with_standing xs new) ≡ keys_of xs
 joins_in_place [] new taken = absurd (unlike taken)
 joins_in_place (x ∷ xs) new taken = by_test (same_key x.row new.row) refl (joins_in_place xs new) taken
   where
-    by_test : (b : Bool) → same_key x.row new.row ≡ b → (is_taken xs new.row ≡ true → keys_of (with_standing xs new) ≡ keys_of xs) → (b || is_taken xs new.row) ≡ true → keys_of (if b then new ∷ xs else x ∷ with_standing xs new) ≡ keys_of (x ∷ xs)
+    by_test : (b : Bool) → same_key x.row new.row ≡ b → (is_key_taken xs new.row ≡ true → keys_of (with_standing xs new) ≡ keys_of xs) → (b || is_key_taken xs new.row) ≡ true → keys_of (if b then new ∷ xs else x ∷ with_standing xs new) ≡ keys_of (x ∷ xs)
     by_test true same rest t = ap (λ (k : Key). k ∷ keys_of xs) (key_same x.row new.row same)
     by_test false differ rest t = ap (λ (ks : List Key). key_of x.row ∷ ks) (rest t)
 
-joins_last : (xs : List Standing) (new : Standing) → is_taken xs new.row ≡ false → with_standing xs new ≡ xs ++ (new ∷ [])
+joins_last : (xs : List Standing) (new : Standing) → is_key_taken xs new.row ≡ false → with_standing xs new ≡ xs ++ (new ∷ [])
 joins_last [] new free = refl
 joins_last (x ∷ xs) new free = by_test (same_key x.row new.row) (joins_last xs new) free
   where
-    by_test : (b : Bool) → (is_taken xs new.row ≡ false → with_standing xs new ≡ xs ++ (new ∷ [])) → (b || is_taken xs new.row) ≡ false → (if b then new ∷ xs else x ∷ with_standing xs new) ≡ x ∷ (xs ++ (new ∷ []))
+    by_test : (b : Bool) → (is_key_taken xs new.row ≡ false → with_standing xs new ≡ xs ++ (new ∷ [])) → (b || is_key_taken xs new.row) ≡ false → (if b then new ∷ xs else x ∷ with_standing xs new) ≡ x ∷ (xs ++ (new ∷ []))
     by_test true rest f = absurd (unlike (sym f))
     by_test false rest f = ap (λ (ys : List Standing). x ∷ ys) (rest f)
 
@@ -102,7 +102,7 @@ or_false : (a b : Bool) → (a || b) ≡ false → (a ≡ false) × (b ≡ false
 or_false true b e = absurd cc
 or_false false b e = (refl, e)
 
-order_by : (change : FlowMod) (deeds : List TableDeed) → AreInOrder (standing_after deeds) → (command : FlowCommand) → (is_add command && is_taken (standing_after deeds) (row_of change)) ≡ false
+order_by : (change : FlowMod) (deeds : List TableDeed) → AreInOrder (standing_after deeds) → (command : FlowCommand) → (is_add command && is_key_taken (standing_after deeds) (row_of change)) ≡ false
     → AreInOrder (standing_by command (suc (length deeds)) change (standing_after deeds))
 order_by change deeds o Add free =
     let new = added_by (suc (length deeds)) change in
@@ -115,7 +115,7 @@ order_by change deeds o DeleteStrict free = order_filter _ (standing_after deeds
 pub in_order : (deeds : List TableDeed) → has_replaced deeds ≡ false → AreInOrder (standing_after deeds)
 in_order [] none = (tt, tt)
 in_order (Changed change ∷ deeds) none =
-    let p = or_false (is_add change.command && is_taken (standing_after deeds) (row_of change)) (has_replaced deeds) none in
+    let p = or_false (is_add change.command && is_key_taken (standing_after deeds) (row_of change)) (has_replaced deeds) none in
     order_by change deeds (in_order deeds p.1) change.command p.0
 in_order (Ticked ∷ deeds) none = order_filter _ (standing_after deeds) (in_order deeds none)
 in_order (Met chosen octets ∷ deeds) none = in_order deeds none

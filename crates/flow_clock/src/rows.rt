@@ -1,5 +1,5 @@
 //! Rows that leave by a clock.
-ghost use Rattle.std.specs.Prelude.{◌≡◌, ◌<◌, ◌+◌, ◌-◌, ◌^◌, ℕ, None, List, [], ◌∷◌, true, false, option_copied, IfOk, OnOk, OnErr, IfErr};
+ghost use Rattle.std.specs.Prelude.{◌≡◌, ◌<◌, ◌+◌, ◌-◌, ◌^◌, ℕ, None, List, [], ◌∷◌, length, true, false, option_copied, IfOk, OnOk, OnErr, IfErr};
 ghost use Rattle.flow_table.specs.Table.{opening_rows, chosen_row, table_fault};
 ghost use Rattle.flow_clock.specs.History.{Act, Change, Tick, Frame, deeds_of, leaving_after, table_of};
 ghost use Rattle.flow_clock.specs.Clocked.{Clocked, rows_in, clock_change, clock_hit, clock_tick, clock_told, IsTableRefusal, clock_left, clock_risen, leaves_times};
@@ -180,6 +180,13 @@ impl<R: Rows> TimedRows<R> {
         ensures table { (acts : List Act) → self.now ≡ clocked_of acts → option_copied result ≡ chosen_row (table_of acts) fields.now }
     {
         self.rows.look_up(fields)
+    }
+
+    /// How many rows there are.
+    pub fn count_rows(&self) -> usize
+        ensures { result ≡ length (rows_in self.now) }
+    {
+        self.rows.count()
     }
 
     /// Copies of the rows, in the order of adding.

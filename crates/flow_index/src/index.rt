@@ -129,6 +129,10 @@ impl Rows for FlowIndex {
         )
     }
 
+    fn count(&self) -> usize {
+        self.rows.len()
+    }
+
     fn rows(&self) -> Result<Vec<Row>, AllocError> {
         let mut ordered = BTreeMap::new(self.alloc);
         for (place, row) in &self.rows {

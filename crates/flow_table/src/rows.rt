@@ -1,5 +1,5 @@
 //! What a flow table does, in whatever way it keeps its rows.
-ghost use Rattle.std.specs.Prelude.{◌≡◌, None, List, [], ◌∷◌, ◌++◌, option_copied, IfOk, OnOk, OnErr, IfErr};
+ghost use Rattle.std.specs.Prelude.{◌≡◌, None, List, [], ◌∷◌, ◌++◌, length, option_copied, IfOk, OnOk, OnErr, IfErr};
 ghost use Rattle.of_types.specs.declared.message.FlowMod.{FlowMod};
 ghost use Rattle.of_types.specs.declared.message.Row.{Row};
 ghost use Rattle.flow_table.specs.declared.rows.TableFault.TheVariants as faults;
@@ -50,6 +50,10 @@ pub trait Rows {
     /// one that was added first.
     fn look_up(&self, fields: &Fields) -> Option<&Row>
         ensures { option_copied result ≡ chosen_row (rows_of self.now) fields.now };
+
+    /// How many rows there are.
+    fn count(&self) -> usize
+        ensures { result ≡ length (rows_of self.now) };
 
     /// Copies of the rows, in the order of adding.
     fn rows(&self) -> Result<Vec<Row>, AllocError>

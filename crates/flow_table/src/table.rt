@@ -95,6 +95,10 @@ impl Rows for FlowTable {
         chosen
     }
 
+    fn count(&self) -> usize {
+        self.rows.len()
+    }
+
     fn rows(&self) -> Result<Vec<Row>, AllocError> {
         let mut rows = Vec::with_capacity(*self.rows.allocator(), self.rows.len())?;
         for row in &self.rows {

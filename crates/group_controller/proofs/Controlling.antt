@@ -1,6 +1,6 @@
 -- Turns of a controller: what its rule is, and what stands after it.
 use Rattle.std.proofs.Common.{◌≡◌, ◌≤◌, ◌<◌, ℕ, ◌+◌, Bool, true, false, List, [], ◌∷◌, ◌++◌, refl, sym, ap, subst, ◌∙◌}
-use Rattle.std.specs.Prelude.{Result, Ok, Err, IfOk, OnErr, IfSome, Option, Some, None, is_none, nat_lt, ◌&&◌, take, option_to_list, if◌then◌else◌}
+use Rattle.std.specs.Prelude.{Result, Ok, Err, IfOk, OnErr, OnOk, IfSome, IsSome, Option, Some, None, is_none, nat_lt, ◌&&◌, take, option_to_list, if◌then◌else◌}
 use Rattle.std.specs.List.{AllByRecursion}
 use Rattle.journal.specs.declared.journal.Letter.{Letter}
 use Rattle.journal.specs.declared.journal.SaveResult.{SaveResult}
@@ -30,10 +30,10 @@ use Rattle.vr_core.specs.Lasting.{Lasts, promised}
 use Rattle.app_core.specs.Law.{AppLaw}
 use Rattle.group_controller.specs.declared.messages.ControllerInput.{ControllerInput}
 use Rattle.group_controller.specs.declared.messages.ControllerInput.TheVariants as controller_input
-use Rattle.group_controller.specs.Acting.{Acting, Acts, BeginsTurn, pair_with, with_out, with_state, Works}
+use Rattle.group_controller.specs.Acting.{Acting, Acts, BeginsTurn, begun, pair_with, with_out, Works}
 use Rattle.group_controller.specs.Rules.{controller_work, is_crash_input, is_down, is_restart_input, on_crash, on_input, on_local, on_restart, when_down}
 use Rattle.group_controller.specs.State.{ControllerState, Work, down, fresh, resting, stepped, to_members, with_no_met_limit}
-use Rattle.group_controller.specs.Turns.{acting_by, begins_life, Done, SavesAndKeeps, KnowsPair, left_by, MayTake, pair_in, PutsBack, Restarts, Saves, LeavesShelf, Turns, AreAlike, Born, Controlling, Controls, Stands, state_of, state_or, TakesBy, TakesOne, TakesOneAtMost}
+use Rattle.group_controller.specs.Turns.{acting_by, begins_life, Done, SavesAndKeeps, KnowsPair, left_by, letters_left, letters_posted_by, MayTake, pair_in, PutsBack, released, Restarts, Saves, LeavesShelf, Turns, AreAlike, Born, Controlling, Controls, Stands, state_of, state_or, TakesBy, TakesInput, TakesOne, TakesOneAtMost, Wants}
 use Rattle.vr_core.proofs.Keeping.{later_than_none}
 
 -- one that is awake does what the rule of its input says
@@ -158,100 +158,133 @@ module _ {A : Type 0} (law : AppLaw A) (kinds : List ℕ) where
 
   -- what a rule left, whose promise was saved
   left_is : (c : Controlling A) (a left : Acting A) (promise : ℕ) (r : SaveResult) (new : Controlling A) → Stands law c kinds a →
-      new ≡ record c { promise = (standing r (promise, c.life) (c.promise, c.life)).0; life = (standing r (promise, c.life) (c.promise, c.life)).1; results = c.results ++ r ∷ []; acting = acting_by r left } →
-      state_of new ≡ left_by r a.work.state left.work (promise, c.life)
-  left_is c a left promise Saved new h is = ap (λ (x : Controlling A). state_of x) is
+      new ≡ record c { promise = (standing r (promise, c.life) (c.promise, c.life)).0; life = (standing r (promise, c.life) (c.promise, c.life)).1; results = c.results ++ r ∷ []; acting = acting_by r (Some left) } →
+      state_of (released new) ≡ left_by r a.work.state left.work (promise, c.life)
+  left_is c a left promise Saved new h is = ap (λ (x : Controlling A). state_of (released x)) is
   left_is c a left promise KeptOld new h is =
-      ap (λ (x : Controlling A). state_of x) is ∙ down_is c a c.promise c.life h ∙ ap (λ (n : ℕ). down a.work.state n c.life) (sym h.promise) ∙ ap (λ (n : ℕ). down a.work.state a.work.state.vr.promise n) (sym h.life)
-  left_is c a left promise KeptNew new h is = ap (λ (x : Controlling A). state_of x) is ∙ down_is c a promise c.life h
+      ap (λ (x : Controlling A). state_of (released x)) is ∙ down_is c a c.promise c.life h ∙ ap (λ (n : ℕ). down a.work.state n c.life) (sym h.promise) ∙ ap (λ (n : ℕ). down a.work.state a.work.state.vr.promise n) (sym h.life)
+  left_is c a left promise KeptNew new h is = ap (λ (x : Controlling A). state_of (released x)) is ∙ down_is c a promise c.life h
+
+  -- and what it left to be posted
+  posted_is : (left : Acting A) (r : SaveResult) → letters_left (acting_by r (Some left)) ≡ letters_posted_by r left.work
+  posted_is left Saved = refl
+  posted_is left KeptOld = refl
+  posted_is left KeptNew = refl
+
+  -- one that is not down stands
+  pub acting_stands : (c : Controlling A) (a : Acting A) → Controls law c kinds → c.acting ≡ Some a → Stands law c kinds a
+  acting_stands c a h is = subst (λ (o : Option (Acting A)). IfSome o (Stands law c kinds)) is h.acting
 
   rule_is : (c : Controlling A) (a left : Acting A) (input : ControllerInput) → Stands law c kinds a →
-      Works law kinds c.setup (with_state a (with_no_met_limit a.work.state)) (on_input kinds c.setup (with_no_met_limit a.work.state) input) left →
+      Works law kinds c.setup (begun a) (on_input kinds c.setup (begun a).work.state input) left →
       left.work ≡ controller_work kinds c.setup a.work.state input
   rule_is c a left input h w = w.work_is ∙ sym (awake_work kinds c.setup a.work.state input h.awake)
 
-  pub act_saved : (c : Controlling A) (a left : Acting A) (input : ControllerInput) (promise : ℕ) (letters : List (Letter ControllerSays)) (new : Controlling A) (pb pa : ℕ × ℕ) (fb fa : ℕ) →
+  saved_turn : (c : Controlling A) (a left : Acting A) (input : ControllerInput) (promise : ℕ) (new : Controlling A) (pb pa : ℕ × ℕ) (fb fa : ℕ) →
       Stands law c kinds a →
-      Works law kinds c.setup (with_state a (with_no_met_limit a.work.state)) (on_input kinds c.setup (with_no_met_limit a.work.state) input) left →
-      left.promise ≡ Some promise → SavesAndKeeps left (promise, c.life) letters c new pb pa fb fa → Turns kinds (record c { acting = Some a }) input letters new pb pa fb fa
-  act_saved c a left input promise letters new pb pa fb fa h w is k =
+      Works law kinds c.setup (begun a) (on_input kinds c.setup (begun a).work.state input) left →
+      left.promise ≡ Some promise → SavesAndKeeps (promise, c.life) (record c { acting = Some left }) new pb pa fb fa →
+      Turns kinds (record c { acting = Some a }) input (letters_left new.acting) (released new) pb pa fb fa
+  saved_turn c a left input promise new pb pa fb fa h w is k =
       let life : left.work.state.vr.life ≡ c.life = w.lasts.life ∙ h.life in
       let save : left.work.save ≡ Some (promise, c.life) = w.acts.saves ∙ ap (λ (p : Option ℕ). pair_with left.work.state.vr.life p) is ∙ ap (λ (n : ℕ). pair_with n (Some promise)) life in
-      subst (λ (work : Work). Done a.work.state work work.save (state_of new) letters c.results new.results pb pa fb fa) (rule_is c a left input h w)
-      (subst (λ (s : Option (ℕ × ℕ)). Done a.work.state left.work s (state_of new) letters c.results new.results pb pa fb fa) (sym save)
-      (record { result = k.result; kept = ap (λ (x : Controlling A). x.results) k.left; saves = k.saves; state_is = left_is c a left promise k.result new h k.left; letters_are = k.letters_are }))
+      subst (λ (work : Work). Done a.work.state work work.save (state_of (released new)) (letters_left new.acting) c.results new.results pb pa fb fa) (rule_is c a left input h w)
+      (subst (λ (s : Option (ℕ × ℕ)). Done a.work.state left.work s (state_of (released new)) (letters_left new.acting) c.results new.results pb pa fb fa) (sym save)
+      (record {
+        result = k.result;
+        kept = ap (λ (x : Controlling A). x.results) k.left;
+        saves = k.saves;
+        state_is = left_is c a left promise k.result new h k.left;
+        letters_are = ap (λ (x : Controlling A). letters_left x.acting) k.left ∙ posted_is left k.result;
+      }))
 
-  pub act_unsaved : (c : Controlling A) (a left : Acting A) (input : ControllerInput) (letters : List (Letter ControllerSays)) (new : Controlling A) (pair : ℕ × ℕ) (faults : ℕ) →
-      Stands law c kinds a →
-      Works law kinds c.setup (with_state a (with_no_met_limit a.work.state)) (on_input kinds c.setup (with_no_met_limit a.work.state) input) left →
-      left.promise ≡ None → letters ≡ left.work.letters → new ≡ record c { acting = Some (record left { work = resting left.work.state; promise = None }) } →
-      Turns kinds (record c { acting = Some a }) input letters new pair pair faults faults
-  act_unsaved c a left input letters new pair faults h w is letters_is new_is =
-      let save : left.work.save ≡ None = w.acts.saves ∙ ap (λ (p : Option ℕ). pair_with left.work.state.vr.life p) is in
-      subst (λ (work : Work). Done a.work.state work work.save (state_of new) letters c.results new.results pair pair faults faults) (rule_is c a left input h w)
-      (subst (λ (s : Option (ℕ × ℕ)). Done a.work.state left.work s (state_of new) letters c.results new.results pair pair faults faults) (sym save)
-      (record { kept = ap (λ (x : Controlling A). x.results) new_is; pair_is = refl; faults_are = refl; state_is = ap (λ (x : Controlling A). state_of x) new_is; letters_are = letters_is }))
+  pub act_saved : (c mid new : Controlling A) (input : ControllerInput) (promise : ℕ) (pb pa : ℕ × ℕ) (fb fa : ℕ) → Controls law c kinds →
+      TakesInput law kinds input (Some promise) c mid → SavesAndKeeps (promise, mid.life) mid new pb pa fb fa → Turns kinds c input (letters_left new.acting) (released new) pb pa fb fa
+  act_saved c mid new input promise pb pa fb fa h t k =
+      subst (λ (o : Option (Acting A)). Turns kinds (record c { acting = o }) input (letters_left new.acting) (released new) pb pa fb fa) (sym t.was)
+      (saved_turn c t.before t.after input promise new pb pa fb fa (acting_stands c t.before h t.was) t.works t.promise_is (subst (λ (x : Controlling A). SavesAndKeeps (promise, x.life) x new pb pa fb fa) t.left k))
 
-  pub act_crashed : (c : Controlling A) (a : Acting A) (input : ControllerInput) (letters : List (Letter ControllerSays)) (pair : ℕ × ℕ) (faults : ℕ) →
-      Stands law c kinds a → c.acting ≡ None → is_crash_input input ≡ true → letters ≡ [] →
-      Turns kinds (record c { acting = Some a }) input letters c pair pair faults faults
-  act_crashed c a input letters pair faults h off crash none =
+  pub act_unsaved : (c new : Controlling A) (input : ControllerInput) (pair : ℕ × ℕ) (faults : ℕ) → Controls law c kinds →
+      TakesInput law kinds input None c new → Turns kinds c input (letters_left new.acting) (released new) pair pair faults faults
+  act_unsaved c new input pair faults h t =
+      let left = t.after in
+      let save : left.work.save ≡ None = t.works.acts.saves ∙ ap (λ (p : Option ℕ). pair_with left.work.state.vr.life p) t.promise_is in
+      subst (λ (o : Option (Acting A)). Turns kinds (record c { acting = o }) input (letters_left new.acting) (released new) pair pair faults faults) (sym t.was)
+      (subst (λ (work : Work). Done t.before.work.state work work.save (state_of (released new)) (letters_left new.acting) c.results new.results pair pair faults faults) (rule_is c t.before left input (acting_stands c t.before h t.was) t.works)
+      (subst (λ (s : Option (ℕ × ℕ)). Done t.before.work.state left.work s (state_of (released new)) (letters_left new.acting) c.results new.results pair pair faults faults) (sym save)
+      (record {
+        kept = ap (λ (x : Controlling A). x.results) t.left;
+        pair_is = refl;
+        faults_are = refl;
+        state_is = ap (λ (x : Controlling A). state_of (released x)) t.left;
+        letters_are = ap (λ (x : Controlling A). letters_left x.acting) t.left;
+      })))
+
+  -- one that is not down goes down
+  stops_at : (c new : Controlling A) (a : Acting A) → Stands law c kinds a → new ≡ record c { acting = None } → state_of (released new) ≡ down a.work.state a.work.state.vr.promise a.work.state.vr.life
+  stops_at c new a h new_is =
+      ap (λ (x : Controlling A). state_of (released x)) new_is ∙ down_is c a c.promise c.life h ∙ ap (λ (n : ℕ). down a.work.state n c.life) (sym h.promise) ∙ ap (λ (n : ℕ). down a.work.state a.work.state.vr.promise n) (sym h.life)
+
+  crashed_at : (c new : Controlling A) (a : Acting A) (input : ControllerInput) (pair : ℕ × ℕ) (faults : ℕ) →
+      Stands law c kinds a → is_crash_input input ≡ true → new ≡ record c { acting = None } →
+      Turns kinds (record c { acting = Some a }) input (letters_left new.acting) (released new) pair pair faults faults
+  crashed_at c new a input pair faults h crash new_is =
       let work = resting (down a.work.state a.work.state.vr.promise a.work.state.vr.life) in
       let rule : work ≡ controller_work kinds c.setup a.work.state input = sym (awake_work kinds c.setup a.work.state input h.awake ∙ crash_work kinds c.setup (with_no_met_limit a.work.state) input crash) in
-      let state : state_of c ≡ work.state =
-      ap (λ (o : Option (Acting A)). state_of (record c { acting = o })) off ∙ down_is c a c.promise c.life h ∙ ap (λ (n : ℕ). down a.work.state n c.life) (sym h.promise) ∙ ap (λ (n : ℕ). down a.work.state a.work.state.vr.promise n) (sym h.life) in
-      subst (λ (w : Work). Done a.work.state w w.save (state_of c) letters c.results c.results pair pair faults faults) rule
-      (record { kept = refl; pair_is = refl; faults_are = refl; state_is = state; letters_are = none })
+      subst (λ (w : Work). Done a.work.state w w.save (state_of (released new)) (letters_left new.acting) c.results new.results pair pair faults faults) rule
+      (record {
+        kept = ap (λ (x : Controlling A). x.results) new_is;
+        pair_is = refl;
+        faults_are = refl;
+        state_is = stops_at c new a h new_is;
+        letters_are = ap (λ (x : Controlling A). letters_left x.acting) new_is;
+      })
 
-  pub began_begins : (c : Controlling A) (a b : Acting A) → Stands law c kinds a → b ≡ with_state a (with_no_met_limit a.work.state) → BeginsTurn law b kinds c.setup
-  began_begins c a b h is =
-      let s = h.begins in
-      subst (λ (x : Acting A). BeginsTurn law x kinds c.setup) (sym is)
+  pub act_crashed : (c new : Controlling A) (input : ControllerInput) (pair : ℕ × ℕ) (faults : ℕ) → IsSome c.acting → Controls law c kinds →
+      is_crash_input input ≡ true → new ≡ record c { acting = None } → Turns kinds c input (letters_left new.acting) (released new) pair pair faults faults
+  act_crashed c new input pair faults some h crash new_is =
+      by_acting c.acting refl some
+    where
+      by_acting : (o : Option (Acting A)) → c.acting ≡ o → IsSome o → Turns kinds c input (letters_left new.acting) (released new) pair pair faults faults
+      by_acting None is none = absurd cc none
+      by_acting (Some a) is some =
+          subst (λ (o : Option (Acting A)). Turns kinds (record c { acting = o }) input (letters_left new.acting) (released new) pair pair faults faults) (sym is)
+          (crashed_at c new a input pair faults (acting_stands c a h is) crash new_is)
+
+  wants_at : (c new : Controlling A) (a : Acting A) (pair : ℕ × ℕ) (faults : ℕ) → Stands law c kinds a → new ≡ record c { acting = None } → Wants (record c { acting = Some a }) new pair pair faults faults
+  wants_at c new a pair faults h new_is =
+      record {
+        state_is = ap (λ (x : Controlling A). state_of x) new_is ∙ sym (ap (λ (x : Controlling A). state_of (released x)) new_is) ∙ stops_at c new a h new_is;
+        kept = ap (λ (x : Controlling A). x.results) new_is;
+        pair_is = refl;
+        faults_are = refl;
+      }
+
+  pub began_begins : (setup : Setup) (a b : Acting A) → BeginsTurn law a kinds setup → b ≡ begun a → BeginsTurn law b kinds setup
+  began_begins setup a b s is =
+      subst (λ (x : Acting A). BeginsTurn law x kinds setup) (sym is)
       (record {
         acts = record { valid = s.acts.valid; own = s.acts.own; reach = s.acts.reach; stands = s.acts.stands; marks = s.acts.marks; saves = s.acts.saves };
         rests = ap (λ (w : Work). record w { state = with_no_met_limit a.work.state }) s.rests;
         unsaved = s.unsaved;
       })
 
-  -- what is kept of a controller after a turn
-  pub controls_kept : (c new : Controlling A) (a left : Acting A) (work : Work) → Controls law c kinds → Stands law c kinds a →
-      Works law kinds c.setup (with_state a (with_no_met_limit a.work.state)) work left → left.promise ≡ None →
-      new ≡ record c { acting = Some (record left { work = resting left.work.state; promise = None }) } → Controls law new kinds
-  controls_kept c new a left work k h w is new_is =
-      let now : Controlling A = record c { acting = Some (record left { work = resting left.work.state; promise = None }) } in
-      subst (λ (x : Controlling A). Controls law x kinds) (sym new_is)
-      (record {
-        setup = k.setup;
-        member = k.member;
-        acting = stands_again c now a (with_state a (with_no_met_limit a.work.state)) left work h refl h.begins.unsaved w refl refl (ap (λ (p : Option ℕ). promised c.promise p) (sym is)) refl;
-        shelf = k.shelf;
-      })
+  pub takes_by : {E : Type 0} (r : Result (Option ℕ) E) (c : Controlling A) (a left : Acting A) (input : ControllerInput) → c.acting ≡ Some a →
+      OnOk r (Works law kinds c.setup (begun a) (on_input kinds c.setup (begun a).work.state input) left) → IfOk r (λ promise. promise ≡ left.promise) →
+      IfOk r (λ promise. TakesInput law kinds input promise c (record c { acting = Some left }))
+  takes_by (Ok promise) c a left input was works is = record { before = a; after = left; was = was; works = works; promise_is = sym is; left = refl }
+  takes_by (Err e) c a left input was works is = tt
 
   abbrev kept_by : Controlling A → Acting A → ℕ → SaveResult → Controlling A
   kept_by c left promise r =
-      record c { promise = (standing r (promise, c.life) (c.promise, c.life)).0; life = (standing r (promise, c.life) (c.promise, c.life)).1; results = c.results ++ r ∷ []; acting = acting_by r left }
-
-  pub controls_saved : (c new : Controlling A) (a left : Acting A) (work : Work) (promise : ℕ) (letters : List (Letter ControllerSays)) (pb pa : ℕ × ℕ) (fb fa : ℕ) → Controls law c kinds →
-      Stands law c kinds a → Works law kinds c.setup (with_state a (with_no_met_limit a.work.state)) work left → left.promise ≡ Some promise →
-      SavesAndKeeps left (promise, c.life) letters c new pb pa fb fa → Controls law new kinds
-  controls_saved c new a left work promise letters pb pa fb fa k h w is s = by_result s.result (subst (λ (x : Controlling A). Controls law x kinds) (sym s.left))
-    where
-      by_result : (r : SaveResult) → (Controls law (kept_by c left promise r) kinds → Controls law new kinds) → Controls law new kinds
-      by_result Saved go = go (record {
-        setup = k.setup;
-        member = k.member;
-        acting = stands_again c (kept_by c left promise Saved) a (with_state a (with_no_met_limit a.work.state)) left work h refl h.begins.unsaved w refl refl (ap (λ (p : Option ℕ). promised c.promise p) (sym is)) refl;
-        shelf = k.shelf;
-      })
-      by_result KeptOld go = go (record { setup = k.setup; member = k.member; acting = tt; shelf = k.shelf })
-      by_result KeptNew go = go (record { setup = k.setup; member = k.member; acting = tt; shelf = k.shelf })
+      record c { promise = (standing r (promise, c.life) (c.promise, c.life)).0; life = (standing r (promise, c.life) (c.promise, c.life)).1; results = c.results ++ r ∷ []; acting = acting_by r (Some left) }
 
   -- a restart whose pair stands all the same
-  pub restart_kept_new : (c mid new : Controlling A) (letters : List (Letter ControllerSays)) (life : ℕ) (r : SaveResult) (pb pa : ℕ × ℕ) (fb fa : ℕ) → c.acting ≡ None → c.life < last_life → life ≡ c.life + 1 → mid ≡ record c { shelf = mid.shelf } →
+  pub restart_kept_new : (c mid new : Controlling A) (life : ℕ) (r : SaveResult) (pb pa : ℕ × ℕ) (fb fa : ℕ) → c.acting ≡ None → c.life < last_life → life ≡ c.life + 1 → mid ≡ record c { shelf = mid.shelf } →
       r ≡ KeptNew → Saves r (mid.promise, life) pb pa fb fa →
       new ≡ record mid { promise = (standing r (mid.promise, life) (mid.promise, mid.life)).0; life = (standing r (mid.promise, life) (mid.promise, mid.life)).1; results = mid.results ++ r ∷ [] } →
-      letters ≡ [] → Restarts c letters new pb pa fb fa
-  restart_kept_new c mid new letters life r pb pa fb fa off low life_is mid_is result_is saves new_is none =
+      Restarts c (letters_left new.acting) (released new) pb pa fb fa
+  restart_kept_new c mid new life r pb pa fb fa off low life_is mid_is result_is saves new_is =
       let below = fresh (down_state c.me c.setup.controllers c.promise c.life) in
       let work : Work = record (stepped below (restarted c.me c.setup.controllers c.promise (c.life + 1))) { save = Some (c.promise, c.life + 1) } in
       let old : state_of c ≡ below = ap (λ (o : Option (Acting A)). state_of (record c { acting = o })) off in
@@ -264,23 +297,23 @@ module _ {A : Type 0} (law : AppLaw A) (kinds : List ℕ) where
       ∙ ap (λ (n : ℕ). record mid { life = n; results = mid.results ++ KeptNew ∷ [] }) life_is
       ∙ ap (λ (l : List SaveResult). record mid { life = c.life + 1; results = l ++ KeptNew ∷ [] }) results
       ∙ ap (λ (x : Controlling A). record x { life = c.life + 1; results = c.results ++ KeptNew ∷ [] }) mid_is in
-      let state : state_of new ≡ down (state_of c) c.promise (c.life + 1) =
-      ap (λ (x : Controlling A). state_of x) told ∙ ap (λ (o : Option (Acting A)). state_of (record c { acting = o; life = c.life + 1 })) off ∙ sym (ap (λ (s : ControllerState). down s c.promise (c.life + 1)) old) in
-      subst (λ (w : Work). Done (state_of c) w w.save (state_of new) letters c.results new.results pb pa fb fa) rule
+      let state : state_of (released new) ≡ down (state_of c) c.promise (c.life + 1) =
+      ap (λ (x : Controlling A). state_of (released x)) told ∙ ap (λ (o : Option (Acting A)). state_of (released (record c { acting = o; life = c.life + 1 }))) off ∙ sym (ap (λ (s : ControllerState). down s c.promise (c.life + 1)) old) in
+      subst (λ (w : Work). Done (state_of c) w w.save (state_of (released new)) (letters_left new.acting) c.results new.results pb pa fb fa) rule
       (record {
         result = KeptNew;
         kept = ap (λ (x : Controlling A). x.results) told;
         saves = subst (λ (x : SaveResult). Saves x (c.promise, c.life + 1) pb pa fb fa) result_is
             (subst (λ (n : ℕ). Saves r (c.promise, n) pb pa fb fa) life_is (subst (λ (n : ℕ). Saves r (n, life) pb pa fb fa) promise saves));
         state_is = state;
-        letters_are = none;
+        letters_are = ap (λ (x : Controlling A). letters_left x.acting) told ∙ ap letters_left off;
       })
 
   -- a restart whose pair was saved: the member of the life that begins is kept
-  pub restart_saved : (c mid after new : Controlling A) (a : Acting A) (letters : List (Letter ControllerSays)) (life : ℕ) (r : SaveResult) (pb pa : ℕ × ℕ) (fb fa : ℕ) → c.acting ≡ None → c.life < last_life → life ≡ c.life + 1 → mid ≡ record c { shelf = mid.shelf } →
-      r ≡ Saved → Saves r (mid.promise, life) pb pa fb fa → Born law c kinds life a → after.results ≡ mid.results ++ r ∷ [] → letters ≡ a.work.letters →
-      new ≡ record after { acting = Some (record a { work = resting a.work.state; promise = None }) } → Restarts c letters new pb pa fb fa
-  restart_saved c mid after new a letters life r pb pa fb fa off low life_is mid_is result_is saves born results letters_is new_is =
+  pub restart_saved : (c mid after new : Controlling A) (a : Acting A) (life : ℕ) (r : SaveResult) (pb pa : ℕ × ℕ) (fb fa : ℕ) → c.acting ≡ None → c.life < last_life → life ≡ c.life + 1 → mid ≡ record c { shelf = mid.shelf } →
+      r ≡ Saved → Saves r (mid.promise, life) pb pa fb fa → Born law c kinds life a → after.results ≡ mid.results ++ r ∷ [] →
+      new ≡ record after { acting = Some a } → Restarts c (letters_left new.acting) (released new) pb pa fb fa
+  restart_saved c mid after new a life r pb pa fb fa off low life_is mid_is result_is saves born results new_is =
       let below = fresh (down_state c.me c.setup.controllers c.promise c.life) in
       let work : Work = record (stepped below (restarted c.me c.setup.controllers c.promise (c.life + 1))) { save = Some (c.promise, c.life + 1) } in
       let old : state_of c ≡ below = ap (λ (o : Option (Acting A)). state_of (record c { acting = o })) off in
@@ -288,14 +321,14 @@ module _ {A : Type 0} (law : AppLaw A) (kinds : List ℕ) where
       let promise : mid.promise ≡ c.promise = ap (λ (x : Controlling A). x.promise) mid_is in
       let kept : mid.results ≡ c.results = ap (λ (x : Controlling A). x.results) mid_is in
       let begun : a.work ≡ stepped below (restarted c.me c.setup.controllers c.promise (c.life + 1)) = born.work_is ∙ ap (λ (n : ℕ). stepped below (restarted c.me c.setup.controllers c.promise n)) life_is in
-      subst (λ (w : Work). Done (state_of c) w w.save (state_of new) letters c.results new.results pb pa fb fa) rule
+      subst (λ (w : Work). Done (state_of c) w w.save (state_of (released new)) (letters_left new.acting) c.results new.results pb pa fb fa) rule
       (record {
         result = Saved;
         kept = ap (λ (x : Controlling A). x.results) new_is ∙ results ∙ ap (λ (l : List SaveResult). l ++ r ∷ []) kept ∙ ap (λ (x : SaveResult). c.results ++ x ∷ []) result_is;
         saves = subst (λ (x : SaveResult). Saves x (c.promise, c.life + 1) pb pa fb fa) result_is
             (subst (λ (n : ℕ). Saves r (c.promise, n) pb pa fb fa) life_is (subst (λ (n : ℕ). Saves r (n, life) pb pa fb fa) promise saves));
-        state_is = ap (λ (x : Controlling A). state_of x) new_is ∙ ap (λ (w : Work). w.state) begun;
-        letters_are = letters_is ∙ ap (λ (w : Work). w.letters) begun;
+        state_is = ap (λ (x : Controlling A). state_of (released x)) new_is ∙ ap (λ (w : Work). w.state) begun;
+        letters_are = ap (λ (x : Controlling A). letters_left x.acting) new_is ∙ ap (λ (w : Work). w.letters) begun;
       })
 
   -- a controller as its group starts
@@ -329,12 +362,13 @@ module _ {A : Type 0} (law : AppLaw A) (kinds : List ℕ) where
   pushed_alike false xs ys app h k m is = subst (λ (l : List A). AreAlike law kinds l) (sym is) h
 
   pub controls_back : (c after : Controlling A) (shelf : List A) → Controls law c kinds → after.setup ≡ c.setup → after.me ≡ c.me → after.acting ≡ None → AreAlike law kinds shelf →
-      Controls law (record after { shelf = shelf }) kinds
+      Controls law (released (record after { shelf = shelf })) kinds
   controls_back c after shelf h setup me off alike =
+      let now = released (record after { shelf = shelf }) in
       record {
         setup = subst (λ (s : Setup). IsSetup s) (sym setup) h.setup;
         member = subst (λ (n : ℕ). n < after.setup.controllers) (sym me) (subst (λ (s : Setup). c.me < s.controllers) (sym setup) h.member);
-        acting = subst (λ (o : Option (Acting A)). IfSome o (Stands law (record after { shelf = shelf }) kinds)) (sym off) tt;
+        acting = subst (λ (o : Option (Acting A)). IfSome (released (record after { acting = o })).acting (Stands law now kinds)) (sym off) tt;
         shelf = alike;
       }
 
@@ -342,47 +376,33 @@ module _ {A : Type 0} (law : AppLaw A) (kinds : List ℕ) where
   pair_by c None h = refl
   pair_by c (Some a) h = ap (λ (n : ℕ). (n, a.work.state.vr.life)) h.promise ∙ ap (λ (n : ℕ). (c.promise, n)) h.life
 
-  -- the stable pair of a controller is that of its state
-  pub pair_known : (c : Controlling A) → Controls law c kinds → pair_in (state_of c) ≡ (c.promise, c.life)
-  pair_known c h = pair_by c c.acting h.acting
-
-  -- what was taken out stands
-  pub taken_stands : (c : Controlling A) (a : Acting A) → Controls law c kinds → c.acting ≡ Some a →
-      Controls law (record c { acting = None }) kinds × Stands law (record c { acting = None }) kinds a
-  taken_stands c a h is =
-      let s = subst (λ (o : Option (Acting A)). IfSome o (Stands law c kinds)) is h.acting in (
-        record { setup = h.setup; member = h.member; acting = tt; shelf = h.shelf },
-        record { begins = s.begins; me = s.me; controllers = s.controllers; promise = s.promise; life = s.life; awake = s.awake },
-      )
-
   down_work : (c : Controlling A) (input : ControllerInput) → controller_work kinds c.setup (state_of (record c { acting = None })) input ≡ when_down (state_of (record c { acting = None })) input
   unfolding controller_work
   down_work c input = refl
 
-  pub turn_restarts : (c : Controlling A) (input : ControllerInput) (letters : List (Letter ControllerSays)) (new : Controlling A) (pb pa : ℕ × ℕ) (fb fa : ℕ) → c.acting ≡ None → is_restart_input input ≡ true →
-      Restarts (record c { acting = None }) letters new pb pa fb fa → Turns kinds c input letters new pb pa fb fa
-  turn_restarts c input letters new pb pa fb fa off is h =
-      subst (λ (o : Option (Acting A)). Turns kinds (record c { acting = o }) input letters new pb pa fb fa) (sym off)
-      (subst (λ (w : Work). Done (state_of (record c { acting = None })) w w.save (state_of new) letters c.results new.results pb pa fb fa)
-      (sym (down_work c input ∙ restart_rule (state_of (record c { acting = None })) input is)) h)
+  -- one that is down does what its rule says
+  down_rule : (c : Controlling A) (input : ControllerInput) (work : ControllerState → Work) → c.acting ≡ None → ((below : ControllerState) → when_down below input ≡ work below) →
+      work (state_of c) ≡ controller_work kinds c.setup (state_of c) input
+  down_rule c input work off rule =
+      subst (λ (o : Option (Acting A)). work (state_of (record c { acting = o })) ≡ controller_work kinds c.setup (state_of (record c { acting = o })) input) (sym off)
+      (sym (down_work c input ∙ rule (state_of (record c { acting = None }))))
 
-  pub turn_drops : (c new : Controlling A) (input : ControllerInput) (letters : List (Letter ControllerSays)) (pair : ℕ × ℕ) (faults : ℕ) → c.acting ≡ None → is_restart_input input ≡ false → letters ≡ [] →
-      new ≡ record c { acting = None } → Turns kinds c input letters new pair pair faults faults
-  turn_drops c new input letters pair faults off is none new_is =
-      subst (λ (o : Option (Acting A)). Turns kinds (record c { acting = o }) input letters new pair pair faults faults) (sym off)
-      (subst (λ (w : Work). Done (state_of (record c { acting = None })) w w.save (state_of new) letters c.results new.results pair pair faults faults)
-      (sym (down_work c input ∙ drop_rule (state_of (record c { acting = None })) input is))
-      (record { kept = ap (λ (x : Controlling A). x.results) new_is; pair_is = refl; faults_are = refl; state_is = ap (λ (x : Controlling A). state_of x) new_is; letters_are = none }))
+  pub turn_restarts : (c : Controlling A) (input : ControllerInput) (letters : List (Letter ControllerSays)) (new : Controlling A) (pb pa : ℕ × ℕ) (fb fa : ℕ) → c.acting ≡ None → is_restart_input input ≡ true →
+      Restarts c letters new pb pa fb fa → Turns kinds c input letters new pb pa fb fa
+  turn_restarts c input letters new pb pa fb fa off is h =
+      subst (λ (w : Work). Done (state_of c) w w.save (state_of new) letters c.results new.results pb pa fb fa) (down_rule c input on_restart off (λ below. restart_rule below input is)) h
+
+  pub turn_drops : (c : Controlling A) (input : ControllerInput) (letters : List (Letter ControllerSays)) (pair : ℕ × ℕ) (faults : ℕ) → c.acting ≡ None → is_restart_input input ≡ false → letters ≡ [] →
+      Turns kinds c input letters c pair pair faults faults
+  turn_drops c input letters pair faults off is none =
+      subst (λ (w : Work). Done (state_of c) w w.save (state_of c) letters c.results c.results pair pair faults faults) (down_rule c input resting off (λ below. drop_rule below input is))
+      (record { kept = refl; pair_is = refl; faults_are = refl; state_is = refl; letters_are = none })
 
 -- a pair was saved, and its controller knows it
 pub knows_saved : {A : Type 0} (c new : Controlling A) (r : SaveResult) (saved pb pa : ℕ × ℕ) (fb fa : ℕ) → Saves r saved pb pa fb fa →
     new.promise ≡ (standing r saved (c.promise, c.life)).0 → new.life ≡ (standing r saved (c.promise, c.life)).1 → KnowsPair c new pb pa
 knows_saved c new r saved pb pa fb fa s promise life known =
     s.pair ∙ ap (λ (p : ℕ × ℕ). standing r saved p) known ∙ ap (λ (n : ℕ). (n, (standing r saved (c.promise, c.life)).1)) (sym promise) ∙ ap (λ (n : ℕ). (new.promise, n)) (sym life)
-
-pub knows_kept : {A : Type 0} (a : Acting A) (saved : ℕ × ℕ) (letters : List (Letter ControllerSays)) (c new : Controlling A) (pb pa : ℕ × ℕ) (fb fa : ℕ) → SavesAndKeeps a saved letters c new pb pa fb fa → KnowsPair c new pb pa
-knows_kept a saved letters c new pb pa fb fa k =
-    knows_saved c new k.result saved pb pa fb fa k.saves (ap (λ (x : Controlling _). x.promise) k.left) (ap (λ (x : Controlling _). x.life) k.left)
 
 -- whichever a result is
 pub whichever : {X E : Type 0} (r : Result X E) (P : X → Type 0) (Q R : Type 0) → IfOk r P → OnErr r Q → ((x : X) → P x → R) → (Q → R) → R
@@ -409,29 +429,7 @@ not_both (controller_input.Of switch xid said) h = absurd cc h
 not_both (controller_input.Malformed sender) h = absurd cc h
 not_both (controller_input.Vr from message) h = absurd cc h
 
-module _ {A : Type 0} (c : Controlling A) (input : ControllerInput) where
-  -- no life begins where one is not down
-  pub awake_begins : (a : Acting A) → c.acting ≡ Some a → begins_life c input ≡ false
-  awake_begins a is = ap (λ (o : Option (Acting A)). is_none o && is_restart_input input && nat_lt c.life last_life) is
-
-  -- nor at another input
-  pub dropped_begins : c.acting ≡ None → is_restart_input input ≡ false → begins_life c input ≡ false
-  dropped_begins off told =
-      ap (λ (o : Option (Acting A)). is_none o && is_restart_input input && nat_lt c.life last_life) off ∙ ap (λ (b : Bool). b && nat_lt c.life last_life) told
-
-  -- one does at a restart, where there is one
-  pub restart_begins : c.acting ≡ None → is_restart_input input ≡ true → begins_life c input ≡ nat_lt c.life last_life
-  restart_begins off told =
-      ap (λ (o : Option (Acting A)). is_none o && is_restart_input input && nat_lt c.life last_life) off ∙ ap (λ (b : Bool). b && nat_lt c.life last_life) told
-
 module _ {A : Type 0} (law : AppLaw A) where
-  -- the shelf of one that was told to restart
-  pub restart_leaves : {X E : Type 0} (r : Result X E) (c new : Controlling A) (b again : Bool) → b ≡ again → c.acting ≡ None →
-      IfOk r (λ _. LeavesShelf law again (record c { acting = None }) new) → IfOk r (λ _. LeavesShelf law b c new)
-  restart_leaves r c new b again same off h =
-      subst (λ (x : Bool). IfOk r (λ _. LeavesShelf law x c new)) (sym same)
-      (subst (λ (o : Option (Acting A)). IfOk r (λ _. LeavesShelf law again (record c { acting = o }) new)) (sym off) h)
-
   -- the member of a life that begins took no event
   pub born_fresh : (c : Controlling A) (kinds : List ℕ) (life : ℕ) (a : Acting A) → Born law c kinds life a →
       law.states a.dispatcher.app ≡ starting_chain (law.kinds a.dispatcher.app)
@@ -474,12 +472,6 @@ module _ {A : Type 0} where
   pub takes_none : {X E : Type 0} (r : Result X E) (c new : Controlling A) (b : Bool) → b ≡ false → new.shelf ≡ c.shelf → OnErr r (MayTake b c new)
   takes_none (Ok x) c new b off same = tt
   takes_none (Err e) c new b off same = subst (λ (b : Bool). MayTake b c new) (sym off) same
-
-  pub restart_may_take : {X E : Type 0} (r : Result X E) (c new : Controlling A) (b again : Bool) → b ≡ again → c.acting ≡ None →
-      OnErr r (MayTake again (record c { acting = None }) new) → OnErr r (MayTake b c new)
-  restart_may_take r c new b again same off h =
-      subst (λ (x : Bool). OnErr r (MayTake x c new)) (sym same)
-      (subst (λ (o : Option (Acting A)). OnErr r (MayTake again (record c { acting = o }) new)) (sym off) h)
 
   -- a restart that wants memory before it took an application, or after
   pub may_have_taken : (c new : Controlling A) → c.life < last_life → TakesOneAtMost c.shelf new.shelf → MayTake (nat_lt c.life last_life) c new

@@ -22,7 +22,7 @@ use Rattle.dispatcher.specs.Folding.{acknowledgement, clears, places_processed}
 use Rattle.dispatcher.specs.Ledger.{AreHandledAt, Dispatching, StandsFor}
 use Rattle.group_controller.specs.declared.messages.ControllerSays.{ControllerSays}
 use Rattle.group_controller.specs.Settling.{ack_letter, clear_letter}
-use Rattle.group_controller.specs.State.{ControllerState, Work, committed, posting_work, resting, to_members}
+use Rattle.group_controller.specs.State.{ControllerState, Work, committed, posting_work, resting, to_members, with_no_met_limit}
 
 -- the turn as far as it was done, the promise that is to be saved, and the dispatcher
 pub record Acting (A : Type 0) : Type 0 where
@@ -40,6 +40,10 @@ posts_letters a letters = record a { work = posting_work a.work letters }
 
 abbrev pub with_state : {A : Type 0} → Acting A → ControllerState → Acting A
 with_state a state = record a { work = record a.work { state = state } }
+
+-- a turn begins: the limit that the last one met is forgotten
+abbrev pub begun : {A : Type 0} → Acting A → Acting A
+begun a = with_state a (with_no_met_limit a.work.state)
 
 -- what a step of the member wants to be saved and sent
 abbrev pub with_out : {A : Type 0} → Acting A → VrOut → Acting A

@@ -4,4 +4,3 @@ pub mod Settling
 pub mod Rules
 pub mod Acting
 pub mod Turns
-pub mod Handled

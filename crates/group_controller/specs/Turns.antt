@@ -1,5 +1,5 @@
 -- One turn of a controller: what it leaves, saves and posts.
-use Rattle.std.specs.Prelude.{◌≡◌, ◌≤◌, ◌<◌, ℕ, nat_lt, Bool, true, false, ◌&&◌, List, [], ◌∷◌, ◌++◌, Option, Some, None, is_none, IfSome, option_to_list}
+use Rattle.std.specs.Prelude.{◌≡◌, ◌≤◌, ◌<◌, ℕ, nat_lt, Bool, true, false, ◌&&◌, List, [], ◌∷◌, ◌++◌, Option, Some, None, is_none, IfSome, option_map, option_to_list}
 use Rattle.std.specs.List.{AllByRecursion}
 use Rattle.of_types.specs.declared.setup.Setup.{Setup}
 use Rattle.of_types.specs.Lives.{last_life}
@@ -17,8 +17,8 @@ use Rattle.app_core.specs.Law.{AppLaw}
 use Rattle.dispatcher.specs.Ledger.{most_commands}
 use Rattle.group_controller.specs.declared.messages.ControllerInput.{ControllerInput}
 use Rattle.group_controller.specs.declared.messages.ControllerSays.{ControllerSays}
-use Rattle.group_controller.specs.Acting.{Acting, Acts, BeginsTurn}
-use Rattle.group_controller.specs.Rules.{controller_work, is_restart_input, on_restart}
+use Rattle.group_controller.specs.Acting.{Acting, Acts, BeginsTurn, begun, Works}
+use Rattle.group_controller.specs.Rules.{controller_work, is_restart_input, on_input, on_restart}
 use Rattle.group_controller.specs.State.{ControllerState, Work, down, fresh, resting, stepped}
 
 -- what contracts see of a controller: its setup and its number, its stable pair, its turn where it is not down, the
@@ -128,22 +128,40 @@ pub record Wants {A : Type 0} (old new : Controlling A) (pair_before pair_after 
   pub pair_is : pair_after ≡ pair_before
   pub faults_are : after ≡ before
 
--- a pair was saved, and what the turn left is kept where that did not fail
-abbrev pub acting_by : {A : Type 0} → SaveResult → Acting A → Option (Acting A)
-acting_by Saved a = Some (record a { work = resting a.work.state; promise = None })
-acting_by KeptOld a = None
-acting_by KeptNew a = None
+-- what a turn left to be posted: nothing where the controller is down
+abbrev pub letters_left : {A : Type 0} → Option (Acting A) → List (Letter ControllerSays)
+letters_left None = []
+letters_left (Some a) = a.work.letters
 
-pub record SavesAndKeeps {A : Type 0} (a : Acting A) (saved : ℕ × ℕ) (letters : List (Letter ControllerSays)) (old new : Controlling A) (pair_before pair_after : ℕ × ℕ) (before after : ℕ) : Type 0 where
+-- once it is posted nothing is left to be saved or posted
+abbrev pub released : {A : Type 0} → Controlling A → Controlling A
+released {A} c = record c { acting = option_map (λ (a : Acting A). record a { work = resting a.work.state; promise = None }) c.acting }
+
+-- One that is not down took an input: it did what the rule says, and wants this promise to be saved.
+pub record TakesInput {A : Type 0} (law : AppLaw A) (kinds : List ℕ)
+    (input : ControllerInput) (promise : Option ℕ) (old new : Controlling A) : Type 0 where
+  pub before : Acting A
+  pub after : Acting A
+  pub was : old.acting ≡ Some before
+  pub works : Works law kinds old.setup (begun before) (on_input kinds old.setup (begun before).work.state input) after
+  pub promise_is : after.promise ≡ promise
+  pub left : new ≡ record old { acting = Some after }
+
+-- a pair was saved, and what the turn left is kept where that did not fail
+abbrev pub acting_by : {A : Type 0} → SaveResult → Option (Acting A) → Option (Acting A)
+acting_by Saved acting = acting
+acting_by KeptOld acting = None
+acting_by KeptNew acting = None
+
+pub record SavesAndKeeps {A : Type 0} (saved : ℕ × ℕ) (old new : Controlling A) (pair_before pair_after : ℕ × ℕ) (before after : ℕ) : Type 0 where
   pub result : SaveResult
   pub saves : Saves result saved pair_before pair_after before after
   pub left : new ≡ record old {
     promise = (standing result saved (old.promise, old.life)).0;
     life = (standing result saved (old.promise, old.life)).1;
     results = old.results ++ result ∷ [];
-    acting = acting_by result a;
+    acting = acting_by result old.acting;
   }
-  pub letters_are : letters ≡ letters_posted_by result a.work
 
 -- the member of a life that begins: nothing is committed, and it asks the others
 pub record Born {A : Type 0} (law : AppLaw A)

@@ -8,8 +8,8 @@ ghost use Rattle.vr_log.specs.Valid.{IsValidState};
 ghost use Rattle.vr_core.specs.Lasting.{CollectsItsOwn};
 ghost use Rattle.vr_core.specs.Step.{vr_step};
 ghost use Rattle.dispatcher.specs.Ledger.{most_commands};
-ghost use Rattle.group_controller.specs.Acting.{Acts, ActsUpTo, answers_to, AreNewlyHandled, BeginsTurn, ForEachGroup, InSomeGroup, Offers, posts_letters, TakesStep, with_out, with_state, Works};
-ghost use Rattle.group_controller.specs.Handled.{handled_events};
+ghost use Rattle.group_controller.specs.Acting.{Acts, ActsUpTo, answers_to, AreNewlyHandled, BeginsTurn, begun, ForEachGroup, InSomeGroup, Offers, posts_letters, TakesStep, with_out, with_state, Works};
+ghost use Rattle.dispatcher.specs.Few.{values_in};
 ghost use Rattle.group_controller.specs.Mails.{letters_mailed};
 ghost use Rattle.group_controller.specs.Rules as rules;
 ghost use Rattle.group_controller.specs.Rules.{after_step, starting_view, unconfirmed};
@@ -19,12 +19,12 @@ ghost use Rattle.group_controller.specs.State.{fresh, resting, with_no_met_limit
 ghost use Rattle.app_core.specs.Chain.{given_by};
 ghost use Rattle.group_controller.specs.declared.messages.ControllerInput.TheVariants as controller_input;
 
-use crate::handled::{Handled, fold_new};
-use crate::letters::{ack_letter, add_clears, add_commands, add_out, role_letter, to_switch};
+use crate::handled::fold_new;
+use crate::letters::{ack_letter, add, add_clears, add_commands, add_out, role_letter, to_switch};
 use crate::mails::{Mail, Mails};
 use crate::messages::ControllerInput;
 use app_core::App;
-use dispatcher::{AckThrough, Dispatcher, EventAction, HandledEvent, NumberedOrder};
+use dispatcher::{AckThrough, Dispatcher, EventAction, Few, HandledEvent, NumberedOrder};
 use journal::Local;
 use of_types::{Event, Extension, MASTER, Octets, OfMessage, Setup, Spoken};
 use std::alloc::{AllocError, Global};
@@ -32,7 +32,7 @@ use std::marker::Model;
 use std::mem::replace;
 use two_stage_log::committed_behind;
 use vr_core::{Replica, VrInput};
-use vr_log::{Entry, LogFull, Status, VrOut};
+use vr_log::{Entry, Log, LogFull, Status, VrOut};
 use vr_normal::ProposeFault;
 
 /// A member of the group, the dispatcher that stands for its committed log, the event whose commands were last sent in
@@ -126,9 +126,7 @@ impl<A: App> Active<A> {
     fn post(&mut self, mail: Mail) -> Result<(), AllocError>
         ensures { OnOk result (self.new ≡ posts_letters self.old (letters_mailed mail)) }
     {
-        self.mails.reserve(1)?;
-        self.mails.push_reserved(mail);
-        Ok(())
+        add(&mut self.mails, mail)
     }
 
     /// A switch is told how many of its events are done with.
@@ -150,9 +148,9 @@ impl<A: App> Active<A> {
 
     /// The member takes a step, and what it wants to be saved and sent is taken.
     #[inline(always)]
-    fn take_step(&mut self, input: &VrInput) -> Result<(), AllocError>
+    fn take_step(&mut self, input: VrInput) -> Result<(), AllocError>
         requires { IsValidState self.old.work.state.vr }
-        ensures { OnOk result (TakesStep self.old (vr_step self.old.work.state.vr input.now) self.new) }
+        ensures { OnOk result (TakesStep self.old (vr_step self.old.work.state.vr input) self.new) }
     {
         self.replica.step(input, &mut self.out)?;
         add_out(&mut self.promise, &mut self.mails, &mut self.out)
@@ -174,11 +172,11 @@ impl<A: App> Active<A> {
 
     /// The application takes what was committed behind so many entries. What is processed of it comes back.
     #[inline(always)]
-    fn fold_behind(&mut self, before: u64) -> Result<Handled, AllocError>
+    fn fold_behind(&mut self, before: u64) -> Result<Few<HandledEvent>, AllocError>
         requires valid { IsValidState self.old.work.state.vr }
         requires reach { before ≤ self.old.work.state.vr.commit }
         ensures folds { ForEachGroup (ActsUpTo A.law before self.old) (λ kinds setup.
-            IfOk result (λ handled. AreNewlyHandled kinds setup self.new.work.state before (handled_events handled) × Acts A.law self.new kinds setup)) }
+            IfOk result (λ handled. AreNewlyHandled kinds setup self.new.work.state before (values_in handled) × Acts A.law self.new kinds setup)) }
         ensures work { self.new.work ≡ self.old.work }
         ensures promise { self.new.promise ≡ self.old.promise }
     {
@@ -208,7 +206,7 @@ impl<A: App> Active<A> {
             self.acknowledge(told)?;
         }
         let clears = self.dispatcher.clears(handled)?;
-        add_clears(&mut self.mails, clears)
+        add_clears(&mut self.mails, clears.as_slice())
     }
 
     /// Settle, first step: events that are processed are answered.
@@ -221,8 +219,8 @@ impl<A: App> Active<A> {
         Ok(())
     }
 
-    fn send(&mut self, commands: Vec<NumberedOrder>) -> Result<(), AllocError>
-        ensures { OnOk result (self.new ≡ posts_letters self.old (map (command_letter self.old.work.state.vr.view) commands.items)) }
+    fn send(&mut self, commands: Few<NumberedOrder>) -> Result<(), AllocError>
+        ensures { OnOk result (self.new ≡ posts_letters self.old (map (command_letter self.old.work.state.vr.view) (values_in commands))) }
     {
         add_commands(&mut self.mails, self.replica.view(), commands)
     }
@@ -366,10 +364,11 @@ impl<A: App> Active<A> {
     }
 
     /// A step of the member: a primary settles where it started a view, and where more is committed.
-    fn step(&mut self, input: &VrInput) -> Result<(), AllocError>
+    #[inline(always)]
+    fn step(&mut self, input: VrInput) -> Result<(), AllocError>
         requires begins { InSomeGroup (BeginsTurn A.law self.old) }
         ensures { ForEachGroup (BeginsTurn A.law self.old) (λ kinds setup.
-            OnOk result (Works A.law kinds setup self.old (after_step kinds setup self.old.work.state (vr_step self.old.work.state.vr input.now)) self.new)) }
+            OnOk result (Works A.law kinds setup self.old (after_step kinds setup self.old.work.state (vr_step self.old.work.state.vr input)) self.new)) }
     {
         let led = self.replica.leads();
         let view = self.replica.view();
@@ -394,7 +393,7 @@ impl<A: App> Active<A> {
         requires begins { InSomeGroup (BeginsTurn A.law self.old) }
         ensures { ForEachGroup (BeginsTurn A.law self.old) (λ kinds setup. OnOk result (Works A.law kinds setup self.old (rules.on_tick kinds setup self.old.work.state) self.new)) }
     {
-        self.take_step(&VrInput::Tick)?;
+        self.take_step(VrInput::Tick)?;
         if self.replica.leads() {
             self.ask_unconfirmed()?;
             let commands = self.dispatcher.outstanding()?;
@@ -550,8 +549,8 @@ impl<A: App> Active<A> {
     }
 
     /// A turn begins with no proposal that met the limit.
-    pub(crate) fn forget_limit(&mut self)
-        ensures { self.new ≡ with_state self.old (with_no_met_limit self.old.work.state) }
+    fn forget_limit(&mut self)
+        ensures { self.new ≡ begun self.old }
     {
         self.full = None;
     }
@@ -563,7 +562,20 @@ impl<A: App> Active<A> {
     {
         self.promise = None;
         let none = Vec::new(self.replica.log().allocator());
+        if self.mails.is_empty() {
+            return Mails::from_vec(none);
+        }
         Mails::from_vec(replace(&mut self.mails, none))
+    }
+
+    /// An empty list, with its memory for the mails of a later turn.
+    pub(crate) fn reuse(&mut self, list: Vec<Mail>)
+        requires { list.items ≡ [] }
+        ensures { self.new ≡ self.old }
+    {
+        if self.mails.is_empty() {
+            self.mails = list;
+        }
     }
 
     /// Its application, for a later life.
@@ -582,6 +594,22 @@ impl<A: App> Active<A> {
         dispatcher.into_app()
     }
 
+    /// The log of its member.
+    pub(crate) fn into_log(self) -> Log
+        ensures { result ≡ self.work.state.vr.log }
+    {
+        let Active {
+            replica,
+            dispatcher: _dispatcher,
+            last_told: _,
+            full: _,
+            promise: _,
+            mails: _mails,
+            out: _out,
+        } = self;
+        replica.into_log()
+    }
+
     /// What it does with a local input. A crash takes no memory here.
     fn on_local(&mut self, local: &Local) -> Result<(), AllocError>
         requires begins { InSomeGroup (BeginsTurn A.law self.old) }
@@ -591,18 +619,13 @@ impl<A: App> Active<A> {
     {
         match local {
             Local::Tick => self.tick(),
-            Local::Suspect { view } => {
-                let input = VrInput::Suspect { view: *view };
-                let answer = self.step(&input);
-                drop(input);
-                answer
-            }
+            Local::Suspect { view } => self.step(VrInput::Suspect { view: *view }),
             _ => Ok(()),
         }
     }
 
     /// What it does with an input. A crash is told by the caller, and takes no memory here.
-    pub(crate) fn on_input(&mut self, input: ControllerInput) -> Result<(), AllocError>
+    fn on_input(&mut self, input: ControllerInput) -> Result<(), AllocError>
         requires begins { InSomeGroup (BeginsTurn A.law self.old) }
         ensures works { ForEachGroup (BeginsTurn A.law self.old) (λ kinds setup. rules.is_crash_input input ≡ false →
             OnOk result (Works A.law kinds setup self.old (rules.on_input kinds setup self.old.work.state input) self.new)) }
@@ -619,13 +642,22 @@ impl<A: App> Active<A> {
                 xid,
                 message,
             } => self.on_switch(switch, xid, message),
-            ControllerInput::Vr { from, message } => {
-                let input = VrInput::From { from, message };
-                let answer = self.step(&input);
-                drop(input);
-                answer
-            }
+            ControllerInput::Vr { from, message } => self.step(VrInput::From { from, message }),
             ControllerInput::Malformed { .. } => Ok(()),
         }
+    }
+
+    /// What it does in a turn. The promise that it wants to be saved comes back.
+    #[inline(always)]
+    pub(crate) fn turn(&mut self, input: ControllerInput) -> Result<Option<u32>, AllocError>
+        requires begins { InSomeGroup (BeginsTurn A.law self.old) }
+        ensures works { ForEachGroup (BeginsTurn A.law self.old) (λ kinds setup. rules.is_crash_input input ≡ false →
+            OnOk result (Works A.law kinds setup (begun self.old) (rules.on_input kinds setup (begun self.old).work.state input) self.new)) }
+        ensures promise { IfOk result (λ promise. promise ≡ self.new.promise) }
+        ensures crash { OnErr result (rules.is_crash_input input ≡ false) }
+    {
+        self.forget_limit();
+        self.on_input(input)?;
+        Ok(self.promise)
     }
 }

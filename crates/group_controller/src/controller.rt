@@ -1,13 +1,13 @@
 //! One turn of a controller.
-ghost use Rattle.std.specs.Prelude.{◌≡◌, ◌≤◌, ◌<◌, ◌∷◌, ◌++◌, [], ℕ, List, Some, None, option_map, nat_eq, nat_lt, false, ◌&&◌, IfOk, OnErr};
+ghost use Rattle.std.specs.Prelude.{◌≡◌, ◌≤◌, ◌<◌, ◌∷◌, ◌++◌, [], ℕ, List, None, option_map, nat_eq, nat_lt, false, ◌&&◌, IfOk, IsSome, OnErr, OnOk};
 ghost use Rattle.std.specs.List.{AllByRecursion};
 ghost use Rattle.of_types.specs.Lives.{last_life};
 ghost use Rattle.of_types.specs.Setups.{IsSetup};
 ghost use Rattle.journal.specs.Stables.{standing};
 ghost use Rattle.dispatcher.specs.Ledger.{most_commands};
 ghost use Rattle.group_controller.specs.Rules.{is_crash_input, is_restart_input};
-ghost use Rattle.group_controller.specs.State.{resting, starting_controller};
-ghost use Rattle.group_controller.specs.Turns.{AreAlike, begins_life, Born, Controls, ForEachKinds, SavesAndKeeps, KnowsPair, LeavesShelf, MayTake, pair_in, Restarts, Saves, Stands, state_of, TakesOne, TakesOneAtMost, Turns, Wants};
+ghost use Rattle.group_controller.specs.State.{starting_controller};
+ghost use Rattle.group_controller.specs.Turns.{AreAlike, begins_life, Born, Controls, ForEachKinds, SavesAndKeeps, KnowsPair, LeavesShelf, letters_left, MayTake, pair_in, released, Restarts, Saves, state_of, TakesInput, TakesOne, TakesOneAtMost, Turns, Wants};
 ghost use Rattle.app_core.specs.Chain.{given_by};
 
 use crate::active::Active;
@@ -167,6 +167,23 @@ impl<A: App> Controller<A> {
         }
     }
 
+    /// Its log, moved out. None where it is down. What else it holds is dropped.
+    pub fn into_log(self) -> Option<Log>
+        ensures { result ≡ option_map (λ a. a.work.state.vr.log) self.acting }
+    {
+        let Controller {
+            alloc: _,
+            me: _,
+            setup: _setup,
+            active,
+            promise: _,
+            life: _,
+            shelf: _shelf,
+            results: _results,
+        } = self;
+        Some(Box::into_inner(active?).into_log())
+    }
+
     /// The proposal that the last turn met the log's limit with, if any. None where it is down.
     pub fn full(&self) -> Option<LogFull>
         ensures { result ≡ (state_of self.now).full }
@@ -218,64 +235,87 @@ impl<A: App> Controller<A> {
         Ok(result)
     }
 
-    /// What a turn left is kept, and what it posts is given.
-    fn keep(&mut self, active: Box<Active<A>>) -> Mails
-        ensures letters { result ≡ active.value.work.letters }
-        ensures kept { self.new ≡ record self.old { acting = Some (record active.value { work = resting active.value.work.state; promise = None }) } }
+    /// What a turn left to be posted: nothing where it is down.
+    fn release(&mut self) -> Mails
+        ensures letters { result ≡ letters_left self.old.acting }
+        ensures rests { self.new ≡ released self.old }
     {
-        let mut active = active;
-        let letters = active.release();
-        self.active = Some(active);
-        letters
-    }
-
-    /// A pair is saved before anything that a turn left is kept or posted. Where that fails nothing is.
-    fn keep_saved<W: Stable>(
-        &mut self,
-        active: Box<Active<A>>,
-        promise: u32,
-        stable: &mut W,
-    ) -> Result<Mails, AllocError>
-        requires down { self.old.acting ≡ None }
-        ensures saves { IfOk result (λ letters. SavesAndKeeps active.value (promise, self.old.life) letters self.old self.new (W.saving.pair stable.old) (W.saving.pair stable.new) (W.saving.faults stable.old) (W.saving.faults stable.new)) }
-        ensures wants { OnErr result ((self.new ≡ self.old) × (W.saving.pair stable.new ≡ W.saving.pair stable.old) × (W.saving.faults stable.new ≡ W.saving.faults stable.old)) }
-    {
-        match self.save(promise, self.life, stable)? {
-            SaveResult::Saved => Ok(self.keep(active)),
-            SaveResult::KeptOld => Ok(Mails::new(self.alloc)),
-            SaveResult::KeptNew => Ok(Mails::new(self.alloc)),
+        match &mut self.active {
+            Some(active) => active.release(),
+            None => Mails::new(self.alloc),
         }
     }
 
-    /// One that is not down takes an input.
-    fn act<W: Stable>(
-        &mut self,
-        active: Box<Active<A>>,
-        input: ControllerInput,
-        stable: &mut W,
-    ) -> Result<Mails, AllocError>
-        requires down { self.old.acting ≡ None }
-        requires stands { (kinds : List ℕ) × Stands A.law self.old kinds active.value }
-        ensures turn { ForEachKinds (λ kinds. Stands A.law self.old kinds active.value) (λ kinds.
-            IfOk result (λ letters. Turns kinds (record self.old { acting = Some active.value }) input letters self.new (W.saving.pair stable.old) (W.saving.pair stable.new) (W.saving.faults stable.old) (W.saving.faults stable.new))) }
-        ensures wants { OnErr result (Wants (record self.old { acting = Some active.value }) self.new (W.saving.pair stable.old) (W.saving.pair stable.new) (W.saving.faults stable.old) (W.saving.faults stable.new)) }
-        ensures controls { ForEachKinds (λ kinds. Controls A.law self.old kinds × Stands A.law self.old kinds active.value) (λ kinds. Controls A.law self.new kinds) }
+    /// It is down: it knows its stable pair alone.
+    #[inline(never)]
+    fn stop(&mut self)
+        ensures { self.new ≡ record self.old { acting = None } }
+    {
+        self.active = None;
+    }
+
+    /// A promise is saved before anything that a turn left is posted. Where that fails the controller is down.
+    #[inline(never)]
+    fn save_promise<W: Stable>(&mut self, promise: u32, stable: &mut W) -> Result<(), AllocError>
+        ensures saves { OnOk result (SavesAndKeeps (promise, self.old.life) self.old self.new (W.saving.pair stable.old) (W.saving.pair stable.new) (W.saving.faults stable.old) (W.saving.faults stable.new)) }
+        ensures wants { OnErr result ((self.new ≡ record self.old { acting = None }) × (W.saving.pair stable.new ≡ W.saving.pair stable.old) × (W.saving.faults stable.new ≡ W.saving.faults stable.old)) }
+    {
+        match self.save(promise, self.life, stable) {
+            Ok(SaveResult::Saved) => Ok(()),
+            Ok(SaveResult::KeptOld) | Ok(SaveResult::KeptNew) => {
+                self.stop();
+                Ok(())
+            }
+            Err(AllocError) => {
+                self.stop();
+                Err(AllocError)
+            }
+        }
+    }
+
+    /// One that is not down does what the rule of an input says. The promise that it wants to be saved comes back.
+    #[inline(always)]
+    fn take(&mut self, input: ControllerInput) -> Result<Option<u32>, AllocError>
+        requires awake { IsSome self.old.acting }
+        requires controls { (kinds : List ℕ) × Controls A.law self.old kinds }
+        ensures takes { ForEachKinds (Controls A.law self.old) (λ kinds. is_crash_input input ≡ false → IfOk result (λ promise. TakesInput A.law kinds input promise self.old self.new)) }
+        ensures only { self.new ≡ record self.old { acting = self.new.acting } }
+        ensures crash { OnErr result (is_crash_input input ≡ false) }
+    {
+        let Some(active) = &mut self.active else {
+            unreachable!()
+        };
+        active.turn(input)
+    }
+
+    /// One that is not down takes an input. What it is to post is left in it.
+    #[inline(always)]
+    fn act<W: Stable>(&mut self, input: ControllerInput, stable: &mut W) -> Result<(), AllocError>
+        requires awake { IsSome self.old.acting }
+        requires controls { (kinds : List ℕ) × Controls A.law self.old kinds }
+        ensures turn { ForEachKinds (Controls A.law self.old) (λ kinds.
+            OnOk result (Turns kinds self.old input (letters_left self.new.acting) (released self.new) (W.saving.pair stable.old) (W.saving.pair stable.new) (W.saving.faults stable.old) (W.saving.faults stable.new))) }
+        ensures wants { OnErr result (Wants self.old self.new (W.saving.pair stable.old) (W.saving.pair stable.new) (W.saving.faults stable.old) (W.saving.faults stable.new)) }
+        ensures down { OnErr result (self.new.acting ≡ None) }
+        ensures controls { ForEachKinds (Controls A.law self.old) (λ kinds. Controls A.law (released self.new) kinds) }
         ensures pair { KnowsPair self.old self.new (W.saving.pair stable.old) (W.saving.pair stable.new) }
         ensures who { (self.new.setup ≡ self.old.setup) × (self.new.me ≡ self.old.me) }
         ensures crash { OnErr result (is_crash_input input ≡ false) }
         ensures shelf { self.new.shelf ≡ self.old.shelf }
     {
-        // (`on_input` takes a crash too, and does nothing with it.)
+        // (A crash is taken too, and does nothing.)
         let crashes = is_crash(&input);
-        let mut active = active;
-        active.forget_limit();
-        active.on_input(input)?;
+        let Ok(promise) = self.take(input) else {
+            self.stop();
+            return Err(AllocError);
+        };
         if crashes {
-            return Ok(Mails::new(self.alloc));
+            self.stop();
+            return Ok(());
         }
-        match active.promise {
-            Some(promise) => self.keep_saved(active, promise, stable),
-            None => Ok(self.keep(active)),
+        match promise {
+            Some(promise) => self.save_promise(promise, stable),
+            None => Ok(()),
         }
     }
 
@@ -307,30 +347,34 @@ impl<A: App> Controller<A> {
     /// One that is down begins its next life, which it saves first. An application whose life did not begin is for the
     /// next try.
     #[inline(never)]
-    fn restart<W: Stable>(&mut self, stable: &mut W) -> Result<Mails, AllocError>
+    fn restart<W: Stable>(&mut self, stable: &mut W) -> Result<(), AllocError>
         requires down { self.old.acting ≡ None }
         requires controls { (kinds : List ℕ) × Controls A.law self.old kinds }
         ensures turn { ForEachKinds (Controls A.law self.old) (λ kinds.
-            IfOk result (λ letters. Restarts self.old letters self.new (W.saving.pair stable.old) (W.saving.pair stable.new) (W.saving.faults stable.old) (W.saving.faults stable.new))) }
+            OnOk result (Restarts self.old (letters_left self.new.acting) (released self.new) (W.saving.pair stable.old) (W.saving.pair stable.new) (W.saving.faults stable.old) (W.saving.faults stable.new))) }
         ensures wants { OnErr result (Wants self.old self.new (W.saving.pair stable.old) (W.saving.pair stable.new) (W.saving.faults stable.old) (W.saving.faults stable.new)) }
-        ensures controls { ForEachKinds (Controls A.law self.old) (λ kinds. Controls A.law self.new kinds) }
+        ensures down { OnErr result (self.new.acting ≡ None) }
+        ensures controls { ForEachKinds (Controls A.law self.old) (λ kinds. Controls A.law (released self.new) kinds) }
         ensures pair { KnowsPair self.old self.new (W.saving.pair stable.old) (W.saving.pair stable.new) }
         ensures who { (self.new.setup ≡ self.old.setup) × (self.new.me ≡ self.old.me) }
-        ensures shelf { IfOk result (λ _. LeavesShelf A.law (nat_lt self.old.life last_life) self.old self.new) }
+        ensures shelf { OnOk result (LeavesShelf A.law (nat_lt self.old.life last_life) self.old self.new) }
         ensures lost { OnErr result (MayTake (nat_lt self.old.life last_life) self.old self.new) }
     {
         if self.life >= u64::from(LAST_LIFE) {
-            return Ok(Mails::new(self.alloc));
+            return Ok(());
         }
         let life = self.life + 1;
         let active = self.born(life)?;
         match self.save(self.promise, life, stable)? {
-            SaveResult::Saved => Ok(self.keep(active)),
-            SaveResult::KeptNew => Ok(Mails::new(self.alloc)),
+            SaveResult::Saved => {
+                self.active = Some(active);
+                Ok(())
+            }
+            SaveResult::KeptNew => Ok(()),
             SaveResult::KeptOld => {
                 // (There is room where it was taken from.)
                 let _ = self.shelf.push(Box::into_inner(active).into_app());
-                Ok(Mails::new(self.alloc))
+                Ok(())
             }
         }
     }
@@ -358,17 +402,27 @@ impl<A: App> Controller<A> {
         ensures shelf { IfOk result (λ _. LeavesShelf A.law (begins_life self.old input) self.old self.new) }
         ensures lost { OnErr result (MayTake (begins_life self.old input) self.old self.new) }
     {
-        match self.active.take() {
-            Some(active) => self.act(active, input, stable),
-            None => {
-                let restarts = is_restart(&input);
-                drop(input);
-                if restarts {
-                    self.restart(stable)
-                } else {
-                    Ok(Mails::new(self.alloc))
-                }
-            }
+        if self.active.is_some() {
+            self.act(input, stable)?;
+            return Ok(self.release());
+        }
+        let restarts = is_restart(&input);
+        drop(input);
+        if restarts {
+            self.restart(stable)?;
+            Ok(self.release())
+        } else {
+            Ok(Mails::new(self.alloc))
+        }
+    }
+
+    /// What a turn posted comes back, so that a later turn has its memory.
+    #[inline(always)]
+    pub fn reuse(&mut self, mails: Mails)
+        ensures { self.new ≡ self.old }
+    {
+        if let Some(active) = &mut self.active {
+            active.reuse(mails.into_empty());
         }
     }
 }

@@ -1,13 +1,14 @@
 //! Letters of a controller.
 ghost use Rattle.std.specs.Prelude.{◌≡◌, ◌++◌, ◌∷◌, [], map, OnOk};
 ghost use Rattle.vr_log.specs.Steps.{later_of};
+ghost use Rattle.dispatcher.specs.Few.{values_in};
 ghost use Rattle.group_controller.specs.Mails.{letters_mailed, mailed};
 ghost use Rattle.group_controller.specs.Settling as settling;
 ghost use Rattle.group_controller.specs.State as state;
 ghost use Rattle.group_controller.specs.State.{to_members};
 
 use crate::mails::Mail;
-use dispatcher::{AckThrough, NumberedOrder};
+use dispatcher::{AckThrough, Few, NumberedOrder};
 use of_types::{Extension, MASTER, OfMessage, Spoken};
 use std::alloc::AllocError;
 use vr_log::{VrLetters, VrOut};
@@ -98,8 +99,31 @@ pub(crate) fn add_out(
     add_members(mails, &mut out.letters)
 }
 
+/// A mail goes behind those that are there.
+pub(crate) fn add(mails: &mut Vec<Mail>, mail: Mail) -> Result<(), AllocError>
+    ensures { OnOk result (mailed mails.new.items ≡ mailed mails.old.items ++ letters_mailed mail) }
+{
+    mails.reserve(1)?;
+    mails.push_reserved(mail);
+    Ok(())
+}
+
 /// So do commands.
 pub(crate) fn add_commands(
+    mails: &mut Vec<Mail>,
+    view: u32,
+    commands: Few<NumberedOrder>,
+) -> Result<(), AllocError>
+    ensures { OnOk result (mailed mails.new.items ≡ mailed mails.old.items ++ map (settling.command_letter view) (values_in commands)) }
+{
+    match commands {
+        Few::Nothing => Ok(()),
+        Few::One(numbered) => add(mails, command_letter(view, numbered)),
+        Few::Many(commands) => add_each(mails, view, commands),
+    }
+}
+
+fn add_each(
     mails: &mut Vec<Mail>,
     view: u32,
     commands: Vec<NumberedOrder>,
@@ -114,12 +138,12 @@ pub(crate) fn add_commands(
 }
 
 /// And what is done with.
-pub(crate) fn add_clears(mails: &mut Vec<Mail>, clears: Vec<AckThrough>) -> Result<(), AllocError>
-    ensures { OnOk result (mailed mails.new.items ≡ mailed mails.old.items ++ map settling.clear_letter clears.items) }
+pub(crate) fn add_clears(mails: &mut Vec<Mail>, clears: &[AckThrough]) -> Result<(), AllocError>
+    ensures { OnOk result (mailed mails.new.items ≡ mailed mails.old.items ++ map settling.clear_letter clears.now) }
 {
     mails.reserve(clears.len())?;
     'more: for told in clears {
-        mails.push_reserved(clear_letter(told));
+        mails.push_reserved(clear_letter(*told));
     }
     Ok(())
 }

@@ -53,6 +53,15 @@ impl Mails {
         Mails { mails }
     }
 
+    /// An empty list with the memory of this one.
+    pub(crate) fn into_empty(self) -> Vec<Mail>
+        ensures { result.items ≡ [] }
+    {
+        let mut mails = self.mails;
+        mails.clear();
+        mails
+    }
+
     /// Whether there is no mail.
     pub fn is_empty(&self) -> bool
         ensures { result ≡ true → self.now ≡ [] }

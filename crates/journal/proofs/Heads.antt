@@ -1,8 +1,8 @@
 -- Entries kept apart from their letters.
-use Rattle.std.proofs.Common.{◌≡◌, ◌≤◌, ◌<◌, ℕ, zero, suc, ◌+◌, ◌-◌, List, [], ◌∷◌, ◌++◌, length, map, take, drop, refl, sym, ap, ◌∙◌, arith, subst, take-append-drop}
-use Rattle.std.specs.Prelude.{slice_get, sum_by, option_map, Option, Some, None, IsSome}
+use Rattle.std.proofs.Common.{◌≡◌, ◌≤◌, ℕ, zero, suc, ◌+◌, List, [], ◌∷◌, ◌++◌, length, map, take, drop, refl, sym, ap, ◌∙◌, arith, subst, append_assoc, take-append-drop}
+use Rattle.std.specs.Prelude.{slice_get, sum_by, Option, Some, None, IsSome}
 use Rattle.std.proofs.Math.Seq.{take-append_seam}
-use Rattle.std.proofs.lemmas.List.{length-append, length-take, length-drop}
+use Rattle.std.proofs.lemmas.List.{length-take, length-drop, map-append}
 use Rattle.std.proofs.lemmas.List.Sums.{sum_by-cons}
 use Rattle.journal.specs.declared.entries.Head.{Head}
 use Rattle.journal.specs.declared.entries.Head.TheVariants as head
@@ -11,10 +11,12 @@ use Rattle.journal.specs.declared.journal.JournalEntry.{JournalEntry}
 use Rattle.journal.specs.declared.journal.JournalEntry.TheVariants.{Post}
 use Rattle.journal.specs.declared.journal.Letter.{Letter}
 use Rattle.journal.specs.declared.journal.Packet.{Packet}
-use Rattle.journal.specs.declared.place.PacketPlace.{PacketPlace}
-use Rattle.journal.specs.Entries.{EntriesState, IsBare, StartsAt, Tile, letter_count, whole_entry, entry_with, head_of, letter_number, number_in}
-use Rattle.journal.specs.Places.{packet_as, packet_at, packet_in}
+use Rattle.journal.specs.Entries.{EntriesState, IsBare, StartsAt, Tile, letter_count, whole_entry, entry_with, head_of}
+use Rattle.journal.specs.Places.{packets_in, packets_posted}
+use Rattle.journal.specs.Pool.{numbered_letters}
+use Rattle.journal.proofs.Lists.{drop_more, map_at}
 use Rattle.journal.proofs.Packing.{part_of}
+use Rattle.journal.proofs.Placing.{slice_get-append}
 
 pub same_entries : {B : Type 0} (i j : List (JournalEntry B)) (c d : List (Letter B)) (n r : ℕ) → i ≡ j → c ≡ d →
     ◌≡◌ {A = EntriesState B} (record { items = i; coming = c; next = n; room = r }) (record { items = j; coming = d; next = n; room = r })
@@ -39,6 +41,12 @@ pub drop_taken : {A : Type 0} (n : ℕ) (xs : List A) → drop n (take n xs) ≡
 drop_taken zero xs = refl
 drop_taken (suc n) [] = refl
 drop_taken (suc n) (x ∷ xs) = drop_taken n xs
+
+-- letters of which none belongs to no entry
+pub tiled_whole : {A : Type 0} (heads : List Head) (to : ℕ) (letters : List A) → Tile zero heads to → to ≤ length letters → drop to letters ≡ [] → Tile zero heads (length letters)
+tiled_whole heads to letters is low none =
+    let same : to ≡ length letters = omega (arith, low, length-drop to letters, ap length none) in
+    subst (λ n. Tile zero heads n) same is
 
 tile_low : (from : ℕ) (heads : List Head) (to : ℕ) → Tile from heads to → from ≤ to
 tile_low from [] to is = omega (arith, is)
@@ -128,55 +136,46 @@ entry_here n (head.Local a input) letters starts = refl
 entry_here n (head.Idle a) letters starts = refl
 entry_here n (head.Refused a) letters starts = refl
 
-get_front : {A : Type 0} (n : ℕ) (xs : List A) (k : ℕ) (x : A) → slice_get (take n xs) k ≡ Some x → (k < n) × (slice_get xs k ≡ Some x)
-get_front zero xs k x here = cc
-get_front (suc n) [] k x here = cc
-get_front (suc n) (y ∷ xs) zero x here = (omega arith, here)
-get_front (suc n) (y ∷ xs) (suc k) x here = let rest = get_front n xs k x here in (omega (arith, rest.0), rest.1)
+-- a packet's letter
+abbrev pub unnumbered : {B : Type 0} → Packet B → Letter B
+unnumbered p = record { to = p.to; body = p.body }
 
-get_behind : {A : Type 0} (n : ℕ) (xs : List A) (k : ℕ) (x : A) → slice_get (drop n xs) k ≡ Some x → slice_get xs (n + k) ≡ Some x
-get_behind zero xs k x here = let same : zero + k ≡ k = omega arith in ap (slice_get xs) same ∙ here
-get_behind (suc n) [] k x here = cc
-get_behind (suc n) (y ∷ xs) k x here = let next : suc n + k ≡ suc (n + k) = omega arith in ap (slice_get (y ∷ xs)) next ∙ get_behind n xs k x here
+letters_again : {B : Type 0} (first : ℕ) (a : Actor) (letters : List (Letter B)) → map unnumbered (numbered_letters first a letters) ≡ letters
+letters_again first a [] = refl
+letters_again first a (l ∷ letters) = ap (λ (ls : List (Letter _)). l ∷ ls) (letters_again (first + 1) a letters)
 
--- the letter of a packet
-pub record IsLetterOf {B : Type 0} (place : PacketPlace) (heads : List Head) (letters : List (Letter B)) (to : ℕ) (p : Packet B) : Type 0 where
-  pub number : ℕ
-  pub number_is : letter_number place heads ≡ Some number
-  pub within : number < to
-  pub letter : Letter B
-  pub here : slice_get letters number ≡ Some letter
-  pub body_is : letter.body ≡ p.body
+letters_here : {B : Type 0} (from : ℕ) (h : Head) (letters : List (Letter B)) → StartsAt from h → map unnumbered (packets_in (whole_entry letters h)) ≡ take (letter_count h) (drop from letters)
+letters_here from (head.Post a first count lost) letters starts =
+    letters_again first a (take count (drop first letters)) ∙ ap (λ n. take count (drop n letters)) starts
+letters_here from (head.Draw a id keep) letters starts = refl
+letters_here from (head.Lose a id) letters starts = refl
+letters_here from (head.Local a input) letters starts = refl
+letters_here from (head.Idle a) letters starts = refl
+letters_here from (head.Refused a) letters starts = refl
 
-from_letter : {B : Type 0} (id : ℕ) (a : Actor) (found : Option (Letter B)) (p : Packet B) → option_map (λ letter. packet_as id a letter) found ≡ Some p → (l : Letter B) × (found ≡ Some l) × (l.body ≡ p.body)
-from_letter id a None p is = cc
-from_letter id a (Some l) p is = let same : packet_as id a l ≡ p = cc in (l, refl, ap (λ (q : Packet _). q.body) same)
+-- the letters of the packets that entries post are those that they tile
+letters_posted_are : {B : Type 0} (from : ℕ) (heads : List Head) (to : ℕ) (letters : List (Letter B)) → Tile from heads to →
+    map unnumbered (packets_posted (map (whole_entry letters) heads)) ++ drop to letters ≡ drop from letters
+letters_posted_are from [] to letters is = ap (λ n. drop n letters) (sym is)
+letters_posted_are from (h ∷ heads) to letters (starts, is) =
+    let here = packets_in (whole_entry letters h) in
+    let behind = packets_posted (map (whole_entry letters) heads) in
+    let count = letter_count h in
+    let rest = map unnumbered behind ++ drop to letters in
+    ap (λ (ls : List (Letter _)). ls ++ drop to letters) (map-append unnumbered here behind)
+    ∙ append_assoc (map unnumbered here) (map unnumbered behind) (drop to letters)
+    ∙ ap (λ (ls : List (Letter _)). ls ++ rest) (letters_here from h letters starts)
+    ∙ ap (λ (ls : List (Letter _)). take count (drop from letters) ++ ls) (letters_posted_are (from + count) heads to letters is ∙ sym (drop_more from count letters))
+    ∙ take-append-drop count (drop from letters)
 
-pub letter_in : {B : Type 0} (place : PacketPlace) (from : ℕ) (i : ℕ) (heads : List Head) (letters : List (Letter B)) (to : ℕ) (p : Packet B) → Tile from heads to →
-    packet_in place.letter (slice_get (map (whole_entry letters) heads) i) ≡ Some p →
-    (n : ℕ) × (number_in place.letter (slice_get heads i) ≡ Some n) × (n < to) × (l : Letter B) × (slice_get letters n ≡ Some l) × (l.body ≡ p.body)
-letter_in place from i [] letters to p is found = cc
-letter_in place from (suc i) (h ∷ heads) letters to p (starts, is) found = letter_in place (from + letter_count h) i heads letters to p is found
-letter_in place from zero (head.Post a first count lost ∷ heads) letters to p (starts, is) found =
-    let one = from_letter (first + place.letter) a (slice_get (take count (drop first letters)) place.letter) p found in
-    let front = get_front count (drop first letters) place.letter one.0 one.1 in
-    let upto = tile_low (from + count) heads to is in
-    (first + place.letter, refl, omega (arith, front.0, upto, starts), one.0, get_behind first letters place.letter one.0 front.1, one.2)
-letter_in place from zero (head.Draw a id keep ∷ heads) letters to p is found = cc
-letter_in place from zero (head.Lose a id ∷ heads) letters to p is found = cc
-letter_in place from zero (head.Local a input ∷ heads) letters to p is found = cc
-letter_in place from zero (head.Idle a ∷ heads) letters to p is found = cc
-letter_in place from zero (head.Refused a ∷ heads) letters to p is found = cc
-
-pub letter_of_packet : {B : Type 0} (place : PacketPlace) (heads : List Head) (letters : List (Letter B)) (to : ℕ) (p : Packet B) → Tile zero heads to → packet_at place (map (whole_entry letters) heads) ≡ Some p →
-    IsLetterOf place heads letters to p
-letter_of_packet place heads letters to p is found =
-    let one = letter_in place zero place.entry heads letters to p is found in
-    record { number = one.0; number_is = one.1; within = one.2; letter = one.3; here = one.4; body_is = one.5 }
+-- so the letter of a packet is that of its number
+pub letter_there : {B : Type 0} (heads : List Head) (to : ℕ) (letters : List (Letter B)) (n : ℕ) (p : Packet B) → Tile zero heads to →
+    slice_get (packets_posted (map (whole_entry letters) heads)) n ≡ Some p → slice_get letters n ≡ Some (unnumbered p)
+letter_there heads to letters n p is found =
+    let packets = packets_posted (map (whole_entry letters) heads) in
+    ap (λ (ls : List (Letter _)). slice_get ls n) (sym (letters_posted_are zero heads to letters is))
+    ∙ slice_get-append (map unnumbered packets) (drop to letters) n (unnumbered p) (map_at unnumbered packets n p found)
 
 pub some_packet : {B : Type 0} (found : Option (Packet B)) → IsSome found → (p : Packet B) × (found ≡ Some p)
 some_packet None some = cc
 some_packet (Some p) some = (p, refl)
-
-pub some_same : {m n : ℕ} → Some m ≡ Some n → m ≡ n
-some_same is = cc

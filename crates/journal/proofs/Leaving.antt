@@ -1,27 +1,24 @@
 -- Packets that leave a pool, and those for each actor that stay.
-use Rattle.std.proofs.Common.{◌≡◌, ℕ, ◌+◌, Bool, true, false, Some, None, List, [], ◌∷◌, length, filter, get_or, refl, sym, ap, ◌∙◌, arith, zero, suc, subst, cond}
+use Rattle.std.proofs.Common.{◌≡◌, ℕ, ◌+◌, Bool, true, false, Some, List, [], ◌∷◌, length, filter, get_or, refl, sym, ap, ◌∙◌, arith, zero, suc, subst, cond}
 use Rattle.std.specs.Prelude.{slice_get, not, nat_eq, if◌then◌else◌, ◌%◌}
 use Rattle.std.specs.List.{remove}
 use Rattle.std.proofs.lemmas.Bool.{eqb-true, eq-eqb}
 use Rattle.std.proofs.lemmas.Option.{none-some, slice_get_within, get_or_from_slice_get}
-use Rattle.std.proofs.lemmas.List.{nil_from_length}
 use Rattle.std.proofs.lemmas.List.Edits.{length-remove}
 use Rattle.std.proofs.lemmas.List.Sums.{sum_by-remove}
 use Rattle.journal.specs.declared.journal.Actor.{Actor}
 use Rattle.journal.specs.declared.journal.Actor.TheVariants.{Controller, Switch}
 use Rattle.journal.specs.declared.journal.JournalEntry.{JournalEntry}
 use Rattle.journal.specs.declared.journal.Packet.{Packet}
-use Rattle.journal.specs.declared.place.PacketPlace.{PacketPlace}
 use Rattle.journal.specs.declared.pool.Sums.{Sums}
 use Rattle.journal.specs.declared.queues.Queues.{Queues}
 use Rattle.journal.specs.Actors.{same_actor}
 use Rattle.journal.specs.Ledger.{Waits}
 use Rattle.journal.specs.Orderly.{pool_bytes}
 use Rattle.journal.specs.Order.{without_packet}
-use Rattle.journal.specs.Places.{picked, queue_of, left_in, ArePlacesOf, IsFound}
+use Rattle.journal.specs.Places.{queue_of, left_in, ArePlacesOf}
 use Rattle.journal.specs.Pool.{waiting, without, chosen}
-use Rattle.journal.proofs.Kept.{nothing_chosen}
-use Rattle.journal.proofs.Placing.{found_none, places_length, places_picked, places_remove}
+use Rattle.journal.proofs.Placing.{places_length, places_remove}
 use Rattle.journal.proofs.Pools.{Rising, Rising-waiting, without-at, waiting-at}
 use Rattle.journal.proofs.Waiters.{waiters-without}
 
@@ -67,7 +64,7 @@ module _ {B : Type 0} where
   -- the packet of a choice leaves the pool
   pub Waits-left : {high low : ℕ} (size : B → ℕ) (journal : List (JournalEntry B)) (packets : List (Packet B)) (queues after : Queues) (waits now : Sums) (actor : Actor) (choice : ℕ) (p : Packet B) →
       Rising high low packets → Waits size journal packets queues waits → chosen choice (waiting actor packets) ≡ Some p →
-      ((a : Actor) → queue_of after a ≡ (if same_actor actor a then left_in choice false (queue_of queues a) else queue_of queues a)) →
+      ((a : Actor) → queue_of after a ≡ (if same_actor actor a then left_in choice (queue_of queues a) else queue_of queues a)) →
       after.order ≡ without_packet p.id queues.order →
       now.letters + 1 ≡ waits.letters → now.bytes + size p.body ≡ waits.bytes → Waits size journal (without p.id packets) after now
   Waits-left size journal packets queues after waits now actor choice p rising is found left order letters bytes =
@@ -87,49 +84,12 @@ module _ {B : Type 0} where
       by_actor : (a : Actor) (i : ℕ) → slice_get packets i ≡ Some p → same_actor p.to actor ≡ true → (b : Bool) → same_actor actor a ≡ b → ArePlacesOf journal (queue_of after a) (waiting a (without p.id packets))
       by_actor a i at to true e =
           let same = same_actor-true actor a e in
-          let now : queue_of after a ≡ remove (queue_of queues a) (choice % length (queue_of queues a)) = left a ∙ ap (λ b. if b then left_in choice false (queue_of queues a) else queue_of queues a) e in
+          let now : queue_of after a ≡ remove (queue_of queues a) (choice % length (queue_of queues a)) = left a ∙ ap (λ b. if b then left_in choice (queue_of queues a) else queue_of queues a) e in
           let count = places_length journal (queue_of queues a) (waiting a packets) (is.queues_are a) in
           let gone : waiting a (without p.id packets) ≡ remove (waiting a packets) (choice % length (waiting a packets)) =
           waiting_here a packets (choice % length (waiting a packets)) p rising (subst (λ b. chosen choice (waiting b packets) ≡ Some p) same found) in
           rw (now, gone, count) (places_remove journal (choice % length (waiting a packets)) (queue_of queues a) (waiting a packets) (is.queues_are a))
       by_actor a i at to false e =
-          let now : queue_of after a ≡ queue_of queues a = left a ∙ ap (λ b. if b then left_in choice false (queue_of queues a) else queue_of queues a) e in
+          let now : queue_of after a ≡ queue_of queues a = left a ∙ ap (λ b. if b then left_in choice (queue_of queues a) else queue_of queues a) e in
           let other : same_actor p.to a ≡ false = ap (λ b. same_actor b a) (same_actor-true p.to actor to) ∙ e in
           rw (now, waiting_elsewhere a packets i p rising at other) (is.queues_are a)
-
-  -- nothing waits for the actor, and nothing leaves
-  pub Waits-none : (size : B → ℕ) (journal : List (JournalEntry B)) (packets : List (Packet B)) (queues after : Queues) (waits : Sums) (actor : Actor) (choice : ℕ) (keep : Bool) →
-      Waits size journal packets queues waits → None ≡ picked choice (queue_of queues actor) →
-      ((a : Actor) → queue_of after a ≡ (if same_actor actor a then left_in choice keep (queue_of queues a) else queue_of queues a)) →
-      after.order ≡ queues.order → Waits size journal packets after waits
-  Waits-none size journal packets queues after waits actor choice keep is none left order = record {
-    letters_are = is.letters_are;
-    bytes_are = is.bytes_are;
-    order_is = order ∙ is.order_is;
-    queues_are = λ a. by_actor a (same_actor actor a) refl;
-  }
-    where
-      empty : queue_of queues actor ≡ []
-      empty =
-          let places = queue_of queues actor in
-          let found = places_picked journal places (waiting actor packets) choice (is.queues_are actor) in
-          let nothing = nothing_chosen choice (waiting actor packets) (found_none journal (chosen choice (waiting actor packets)) (subst (λ o. IsFound journal o (chosen choice (waiting actor packets))) (sym none) found)) in
-          nil_from_length places (places_length journal places (waiting actor packets) (is.queues_are actor) ∙ ap length nothing)
-
-      removed : (i : ℕ) → ◌≡◌ {A = List PacketPlace} (remove [] i) []
-      removed zero = refl
-      removed (suc i) = refl
-
-      nothing_left : (k : Bool) → left_in choice k [] ≡ []
-      nothing_left true = refl
-      nothing_left false = removed (choice % 0)
-
-      by_actor : (a : Actor) (b : Bool) → same_actor actor a ≡ b → ArePlacesOf journal (queue_of after a) (waiting a packets)
-      by_actor a true e =
-          let here : queue_of queues a ≡ [] = subst (λ b. queue_of queues b ≡ []) (same_actor-true actor a e) empty in
-          let now : queue_of after a ≡ queue_of queues a =
-          left a ∙ ap (λ b. if b then left_in choice keep (queue_of queues a) else queue_of queues a) e ∙ ap (left_in choice keep) here ∙ nothing_left keep ∙ sym here in
-          rw now (is.queues_are a)
-      by_actor a false e =
-          let now : queue_of after a ≡ queue_of queues a = left a ∙ ap (λ b. if b then left_in choice keep (queue_of queues a) else queue_of queues a) e in
-          rw now (is.queues_are a)

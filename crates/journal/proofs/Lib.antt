@@ -1,4 +1,5 @@
 pub mod Lists
+pub mod Results
 pub mod Pools
 pub mod Sizes
 pub mod Fitting

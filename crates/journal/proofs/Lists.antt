@@ -19,6 +19,10 @@ numbered-take zero first a letters = refl
 numbered-take (suc n) first a [] = refl
 numbered-take (suc n) first a (l ∷ letters) = ap (λ ps. packet_as first a l ∷ ps) (numbered-take n (first + 1) a letters)
 
+pub length-numbered : {B : Type 0} (first : ℕ) (a : Actor) (letters : List (Letter B)) → length (numbered_letters first a letters) ≡ length letters
+length-numbered first a [] = refl
+length-numbered first a (l ∷ letters) = let rest = length-numbered (first + 1) a letters in omega (arith, rest)
+
 -- what holds of the element at an index
 pub at_index : {A : Type 0} (P : A → Type 0) (xs : List A) (i : ℕ) → i < length xs → IfSome (slice_get xs i) P → (x : A) × (slice_get xs i ≡ Some x) × P x
 at_index P [] i within holds = absurd (omega (arith, within))
@@ -75,6 +79,13 @@ next_dropped zero (suc m) (z ∷ zs) x ys is here =
     rw none same
 next_dropped (suc n) (suc m) [] x ys is here = cc
 next_dropped (suc n) (suc m) (z ∷ zs) x ys is here = next_dropped n m zs x ys (omega (arith, is)) here
+
+-- an element behind others
+pub dropped_at : {A : Type 0} (n i place : ℕ) (xs : List A) → place ≡ n + i → slice_get (drop n xs) i ≡ slice_get xs place
+dropped_at zero i place xs is = let same : i ≡ place = omega (arith, is) in ap (λ k. slice_get xs k) same
+dropped_at (suc n) i place [] is = refl
+dropped_at (suc n) i zero (x ∷ xs) is = absurd (omega (arith, is))
+dropped_at (suc n) i (suc place) (x ∷ xs) is = dropped_at n i place xs (omega (arith, is))
 
 drop_nil : {A : Type 0} (n : ℕ) → ◌≡◌ {A = List A} (drop n []) []
 drop_nil zero = refl

@@ -1,16 +1,16 @@
 -- Letters whose bodies are bytes, as bytes and letters come to them.
-use Rattle.std.proofs.Common.{◌≡◌, ◌≤◌, ℕ, zero, suc, ◌+◌, List, [], ◌∷◌, ◌++◌, length, map, take, drop, refl, sym, ap, ◌∙◌, arith, append_assoc}
-use Rattle.std.specs.Prelude.{slice_get, Some}
-use Rattle.std.specs.List.{AllByRecursion}
-use Rattle.std.proofs.Math.Seq.{take-append_seam}
+use Rattle.std.proofs.Common.{◌≡◌, ◌<◌, ◌≤◌, ℕ, zero, suc, ◌+◌, List, [], ◌∷◌, ◌++◌, length, map, take, drop, set, refl, sym, ap, ◌∙◌, arith, subst}
+use Rattle.std.specs.Prelude.{slice_get, Option, Some, None, IfSome, IfNone}
+use Rattle.std.proofs.Math.Seq.{map-set_same, take-append_seam}
+use Rattle.std.proofs.lemmas.Option.{get_or_from_slice_get}
 use Rattle.std.proofs.lemmas.List.{map-append}
-use Rattle.journal.specs.declared.journal.Actor.{Actor}
 use Rattle.journal.specs.declared.journal.Letter.{Letter}
 use Rattle.journal.specs.declared.packed.Slip.{Slip}
 use Rattle.journal.specs.declared.packed.Stored.{Stored}
 use Rattle.journal.specs.declared.packed.Stored.TheVariants.{Own, Shared}
-use Rattle.journal.specs.Mailbags.{body_of, letter_of, moved, moved_body, ShareWithin, IsWithin}
+use Rattle.journal.specs.Mailbags.{body_of, letter_of, moved, moved_body, emptied, HasBody, ShareWithin, IsWithin}
 use Rattle.journal.proofs.All.{all_append}
+use Rattle.journal.proofs.Lists.{map_at}
 use Rattle.journal.proofs.Rows.{take_less}
 
 -- a part within the first ones
@@ -101,3 +101,51 @@ pub map_take : {A B : Type 0} (f : A → B) (n : ℕ) (xs : List A) → map f (t
 map_take f zero xs = refl
 map_take f (suc n) [] = refl
 map_take f (suc n) (x ∷ xs) = ap (λ ys. f x ∷ ys) (map_take f n xs)
+
+-- a letter of an index gave its body away: the others are as they were
+pub emptied-length : (i : ℕ) (letters : List (Letter (List ℕ))) → length (emptied i letters) ≡ length letters
+emptied-length i [] = refl
+emptied-length zero (l ∷ letters) = refl
+emptied-length (suc i) (l ∷ letters) = let rest = emptied-length i letters in omega (arith, rest)
+
+pub emptied-other : (i j : ℕ) (letters : List (Letter (List ℕ))) → (i ≡ j → ⊥) → slice_get (emptied i letters) j ≡ slice_get letters j
+emptied-other i j [] differ = refl
+emptied-other zero zero (l ∷ letters) differ = absurd (differ refl)
+emptied-other zero (suc j) (l ∷ letters) differ = refl
+emptied-other (suc i) zero (l ∷ letters) differ = refl
+emptied-other (suc i) (suc j) (l ∷ letters) differ = emptied-other i j letters (λ same. differ (ap suc same))
+
+pub emptied-behind : (i n : ℕ) (letters : List (Letter (List ℕ))) → i < n → drop n (emptied i letters) ≡ drop n letters
+emptied-behind i n [] behind = refl
+emptied-behind i zero (l ∷ letters) behind = absurd (omega (arith, behind))
+emptied-behind zero (suc n) (l ∷ letters) behind = refl
+emptied-behind (suc i) (suc n) (l ∷ letters) behind = emptied-behind i n letters (omega (arith, behind))
+
+emptied_there : (bytes : List ℕ) (slips : List Slip) (i : ℕ) (slip : Slip) → slice_get slips i ≡ Some slip →
+    map (letter_of bytes) (set slips i (record { to = slip.to; body = Own [] })) ≡ emptied i (map (letter_of bytes) slips)
+emptied_there bytes [] i slip here = cc
+emptied_there bytes (s ∷ slips) zero slip here = let same : s ≡ slip = cc in ap (λ (x : Slip). record { to = x.to; body = [] } ∷ map (letter_of bytes) slips) (sym same)
+emptied_there bytes (s ∷ slips) (suc i) slip here = ap (λ ls. letter_of bytes s ∷ ls) (emptied_there bytes slips i slip here)
+
+within_set : (n : ℕ) (slips : List Slip) (i : ℕ) (slip : Slip) → ShareWithin n slips → IsWithin n slip.body → ShareWithin n (set slips i slip)
+within_set n [] i slip within here = tt
+within_set n (s ∷ slips) zero slip (first, within) here = (here, within)
+within_set n (s ∷ slips) (suc i) slip (first, within) here = (first, within_set n slips i slip within here)
+
+-- a slip whose body was moved out, or which has none of its own
+module _ (bytes : List ℕ) (slips : List Slip) (i : ℕ) (slip after : Slip) (here : slice_get slips i ≡ Some slip) where
+  pub taken_body : (own : Option (List ℕ)) → IfSome own (λ o. slip.body ≡ Own o) → IfSome own (λ o. HasBody (map (letter_of bytes) slips) i o)
+  taken_body None is = tt
+  taken_body (Some o) is = (letter_of bytes slip, map_at (letter_of bytes) slips i slip here, ap (body_of bytes) is)
+
+  pub taken_left : (own : Option (List ℕ)) → IfSome own (λ _. after ≡ record { to = slip.to; body = Own [] }) → IfSome own (λ _. map (letter_of bytes) (set slips i after) ≡ emptied i (map (letter_of bytes) slips))
+  taken_left None left = tt
+  taken_left (Some o) left = ap (λ s. map (letter_of bytes) (set slips i s)) left ∙ emptied_there bytes slips i slip here
+
+  pub taken_none : (own : Option (List ℕ)) → IfNone own (after ≡ slip) → IfNone own (map (letter_of bytes) (set slips i after) ≡ map (letter_of bytes) slips)
+  taken_none None same = map-set_same (letter_of bytes) slips i after slip (ap (letter_of bytes) (same ∙ sym (get_or_from_slice_get slips i slip slip here)))
+  taken_none (Some o) same = tt
+
+  pub taken_within : (n : ℕ) (own : Option (List ℕ)) → ShareWithin n slips → IfSome own (λ _. after ≡ record { to = slip.to; body = Own [] }) → IfNone own (after ≡ slip) → ShareWithin n (set slips i after)
+  taken_within n None within left same = within_set n slips i after within (subst (λ s. IsWithin n s.body) (sym same) (within_at n i slips slip within here))
+  taken_within n (Some o) within left same = within_set n slips i after within (subst (λ s. IsWithin n s.body) (sym left) tt)

@@ -1,18 +1,20 @@
 -- Places of packets in a journal that grows.
 use Rattle.std.proofs.Common.{◌≡◌, ◌<◌, ℕ, ◌+◌, Bool, true, false, Option, Some, None, List, [], ◌∷◌, ◌++◌, length, take, drop, get_or, refl, sym, ap, ◌∙◌, arith, zero, suc, subst}
-use Rattle.std.specs.Prelude.{option_map, slice_get, if◌then◌else◌, ◌%◌}
+use Rattle.std.specs.Prelude.{slice_get, if◌then◌else◌, ◌%◌}
 use Rattle.std.specs.List.{remove}
+use Rattle.std.proofs.lemmas.List.{length-append, reverse-append}
+use Rattle.std.proofs.lemmas.List.Concat.{flat_map-append}
 use Rattle.std.proofs.lemmas.Option.{none-some}
 use Rattle.journal.specs.declared.journal.Actor.{Actor}
 use Rattle.journal.specs.declared.journal.JournalEntry.{JournalEntry}
-use Rattle.journal.specs.declared.journal.JournalEntry.TheVariants.{Post}
+use Rattle.journal.specs.declared.journal.JournalEntry.TheVariants.{Post, Draw, Lose, Local, Idle, Refused}
 use Rattle.journal.specs.declared.journal.Letter.{Letter}
 use Rattle.journal.specs.declared.journal.Packet.{Packet}
 use Rattle.journal.specs.declared.place.PacketPlace.{PacketPlace}
 use Rattle.journal.specs.Actors.{same_actor}
-use Rattle.journal.specs.Places.{packet_as, packet_in, IsPlaceOf, IsFound, ArePlacesOf, placed, sent_to, letters_to, picked}
-use Rattle.journal.specs.Pool.{numbered_letters, waiting, chosen}
-use Rattle.journal.proofs.Lists.{numbered-take}
+use Rattle.journal.specs.Places.{packet_as, packet_at, packets_in, packets_posted, IsPlaceOf, IsFound, ArePlacesOf, placed, sent_to, letters_to, picked}
+use Rattle.journal.specs.Pool.{past, numbered_letters, waiting, chosen, letters_posted}
+use Rattle.journal.proofs.Lists.{length-numbered, numbered-take}
 
 -- what stands in a list stands there when it grows
 pub slice_get-append : {A : Type 0} (xs ys : List A) (i : ℕ) (x : A) → slice_get xs i ≡ Some x → slice_get (xs ++ ys) i ≡ Some x
@@ -20,45 +22,34 @@ slice_get-append [] ys i x h = absurd (none-some x h)
 slice_get-append (y ∷ xs) ys zero x h = h
 slice_get-append (y ∷ xs) ys (suc i) x h = slice_get-append xs ys i x h
 
-pub slice_get-last : {A : Type 0} (xs : List A) (x : A) → slice_get (xs ++ x ∷ []) (length xs) ≡ Some x
-slice_get-last [] x = refl
-slice_get-last (y ∷ xs) x = slice_get-last xs x
-
 slice_get-front : {A : Type 0} (n : ℕ) (xs : List A) (i : ℕ) (x : A) → slice_get (take n xs) i ≡ Some x → slice_get xs i ≡ Some x
 slice_get-front zero xs i x h = absurd (none-some x h)
 slice_get-front (suc n) [] i x h = h
 slice_get-front (suc n) (y ∷ xs) zero x h = h
 slice_get-front (suc n) (y ∷ xs) (suc i) x h = slice_get-front n xs i x h
 
--- a letter at a place, numbered
-numbered_at : {B : Type 0} (first : ℕ) (from : Actor) (letters : List (Letter B)) (k : ℕ) → option_map (λ letter. packet_as (first + k) from letter) (slice_get letters k) ≡ slice_get (numbered_letters first from letters) k
-numbered_at first from [] k = refl
-numbered_at first from (l ∷ letters) zero = ap (λ (id : ℕ). Some (packet_as id from l)) (let plain : first + 0 ≡ first = omega arith in plain)
-numbered_at first from (l ∷ letters) (suc k) =
-    let next : first + suc k ≡ first + 1 + k = omega arith in
-    ap (λ (id : ℕ). option_map (λ letter. packet_as id from letter) (slice_get letters k)) next ∙ numbered_at (first + 1) from letters k
+slice_get-behind : {A : Type 0} (xs ys : List A) (n i : ℕ) → n ≡ length xs + i → slice_get (xs ++ ys) n ≡ slice_get ys i
+slice_get-behind [] ys n i is = let same : n ≡ i = omega (arith, is) in ap (slice_get ys) same
+slice_get-behind (x ∷ xs) ys zero i is = absurd (omega (arith, is))
+slice_get-behind (x ∷ xs) ys (suc n) i is = slice_get-behind xs ys n i (omega (arith, is))
 
 -- one letter more
-pub placed_more : {B : Type 0} (entry k first : ℕ) (from : Actor) (letters : List (Letter B)) (i : ℕ) (d : Letter B) → i < length letters →
-    placed entry k first from (take (i + 1) letters) ≡ placed entry k first from (take i letters) ++ record { id = first + i; from = from; to = (get_or letters i d).to; entry = entry; letter = k + i } ∷ []
-placed_more entry k first from [] i d h = absurd (omega arith)
-placed_more entry k first from (l ∷ letters) zero d h =
+placed_more : {B : Type 0} (first : ℕ) (from : Actor) (letters : List (Letter B)) (i : ℕ) (d : Letter B) → i < length letters →
+    placed first from (take (i + 1) letters) ≡ placed first from (take i letters) ++ record { id = first + i; from = from; to = (get_or letters i d).to } ∷ []
+placed_more first from [] i d h = absurd (omega arith)
+placed_more first from (l ∷ letters) zero d h =
     let n : first ≡ first + 0 = omega arith in
-    let m : k ≡ k + 0 = omega arith in
-    ap (λ (id : ℕ). record { id = id; from = from; to = l.to; entry = entry; letter = k } ∷ []) n ∙ ap (λ (j : ℕ). record { id = first + 0; from = from; to = l.to; entry = entry; letter = j } ∷ []) m
-placed_more entry k first from (l ∷ letters) (suc i) d h =
+    ap (λ (id : ℕ). record { id = id; from = from; to = l.to } ∷ []) n
+placed_more first from (l ∷ letters) (suc i) d h =
     let n : first + 1 + i ≡ first + suc i = omega arith in
-    let m : k + 1 + i ≡ k + suc i = omega arith in
     let short : suc i + 1 ≡ suc (i + 1) = omega arith in
-    rw (short, ← n, ← m) (ap (λ ps. record { id = first; from = from; to = l.to; entry = entry; letter = k } ∷ ps) (placed_more entry (k + 1) (first + 1) from letters i d (omega arith)))
+    rw (short, ← n) (ap (λ ps. record { id = first; from = from; to = l.to } ∷ ps) (placed_more (first + 1) from letters i d (omega arith)))
 
-pub placed_next : {B : Type 0} (entry first : ℕ) (from : Actor) (letters : List (Letter B)) (i : ℕ) (letter : Letter B) → i < length letters → letter ≡ get_or letters i letter →
-    placed entry 0 first from (take (i + 1) letters) ≡ placed entry 0 first from (take i letters) ++ record { id = first + i; from = from; to = letter.to; entry = entry; letter = i } ∷ []
-placed_next entry first from letters i letter within is =
-    let plain : 0 + i ≡ i = omega arith in
-    placed_more entry 0 first from letters i letter within
-    ∙ ap (λ (l : Letter _). placed entry 0 first from (take i letters) ++ record { id = first + i; from = from; to = l.to; entry = entry; letter = 0 + i } ∷ []) (sym is)
-    ∙ ap (λ (j : ℕ). placed entry 0 first from (take i letters) ++ record { id = first + i; from = from; to = letter.to; entry = entry; letter = j } ∷ []) plain
+pub placed_next : {B : Type 0} (first : ℕ) (from : Actor) (letters : List (Letter B)) (i : ℕ) (letter : Letter B) → i < length letters → letter ≡ get_or letters i letter →
+    placed first from (take (i + 1) letters) ≡ placed first from (take i letters) ++ record { id = first + i; from = from; to = letter.to } ∷ []
+placed_next first from letters i letter within is =
+    placed_more first from letters i letter within
+    ∙ ap (λ (l : Letter _). placed first from (take i letters) ++ record { id = first + i; from = from; to = l.to } ∷ []) (sym is)
 
 sent_choice : {B : Type 0} (b : Bool) (place : PacketPlace) (letter : Letter B) (places : List PacketPlace) (letters : List (Letter B)) → length places ≡ length letters →
     length (if b then place ∷ places else places) ≡ length (if b then letter ∷ letters else letters)
@@ -66,20 +57,49 @@ sent_choice true place letter places letters h = omega (arith, h)
 sent_choice false place letter places letters h = h
 
 -- an actor gets as many packets as letters
-pub length-sent : {B : Type 0} (a : Actor) (entry k first : ℕ) (from : Actor) (letters : List (Letter B)) → length (sent_to a (placed entry k first from letters)) ≡ length (letters_to a letters)
-length-sent a entry k first from [] = refl
-length-sent a entry k first from (l ∷ letters) =
-    sent_choice (same_actor l.to a) (record { id = first; from = from; to = l.to; entry = entry; letter = k }) l (sent_to a (placed entry (k + 1) (first + 1) from letters)) (letters_to a letters)
-    (length-sent a entry (k + 1) (first + 1) from letters)
+pub length-sent : {B : Type 0} (a : Actor) (first : ℕ) (from : Actor) (letters : List (Letter B)) → length (sent_to a (placed first from letters)) ≡ length (letters_to a letters)
+length-sent a first from [] = refl
+length-sent a first from (l ∷ letters) =
+    sent_choice (same_actor l.to a) (record { id = first; from = from; to = l.to }) l (sent_to a (placed (first + 1) from letters)) (letters_to a letters)
+    (length-sent a (first + 1) from letters)
 
 module _ {B : Type 0} where
-  at_later : (k : ℕ) (journal more : List (JournalEntry B)) (i : ℕ) (p : Packet B) (e : Option (JournalEntry B)) → slice_get journal i ≡ e → packet_in k e ≡ Some p → packet_in k (slice_get (journal ++ more) i) ≡ Some p
-  at_later k journal more i p None is h = absurd (none-some p h)
-  at_later k journal more i p (Some e) is h = ap (packet_in k) (slice_get-append journal more i e is) ∙ h
+  -- a journal posts as many packets as letters
+  posted_more : (xs ys : List (JournalEntry B)) → letters_posted (xs ++ ys) ≡ letters_posted xs + letters_posted ys
+  posted_more [] ys = omega arith
+  posted_more (Post a first letters lost ∷ xs) ys = let rest = posted_more xs ys in omega (arith, rest)
+  posted_more (Draw a id keep ∷ xs) ys = posted_more xs ys
+  posted_more (Lose a id ∷ xs) ys = posted_more xs ys
+  posted_more (Local a input ∷ xs) ys = posted_more xs ys
+  posted_more (Idle a ∷ xs) ys = posted_more xs ys
+  posted_more (Refused a ∷ xs) ys = posted_more xs ys
+
+  posted_one : (e : JournalEntry B) → letters_posted (e ∷ []) ≡ length (packets_in e)
+  posted_one (Post a first letters lost) = let long = length-numbered first a letters in omega (arith, long)
+  posted_one (Draw a id keep) = refl
+  posted_one (Lose a id) = refl
+  posted_one (Local a input) = refl
+  posted_one (Idle a) = refl
+  posted_one (Refused a) = refl
+
+  pub posted_count : (journal : List (JournalEntry B)) → letters_posted (past journal) ≡ length (packets_posted journal)
+  posted_count [] = refl
+  posted_count (e ∷ journal) =
+      let turned : past (e ∷ journal) ≡ past journal ++ e ∷ [] = reverse-append (e ∷ []) journal in
+      let rest = posted_count journal in
+      let one = posted_one e in
+      let sum = posted_more (past journal) (e ∷ []) in
+      let long = length-append (packets_in e) (packets_posted journal) in
+      ap letters_posted turned ∙ omega (arith, sum, rest, one, long)
+
+  pub stands_later : (journal more : List (JournalEntry B)) (place : PacketPlace) (p : Packet B) → packet_at place journal ≡ Some p → packet_at place (journal ++ more) ≡ Some p
+  stands_later journal more place p stands =
+      ap (λ (ps : List (Packet B)). slice_get ps place.id) (flat_map-append packets_in journal more)
+      ∙ slice_get-append (packets_posted journal) (packets_posted more) place.id p stands
 
   pub is_later : (journal more : List (JournalEntry B)) (place : PacketPlace) (p : Packet B) → IsPlaceOf journal place p → IsPlaceOf (journal ++ more) place p
   is_later journal more place p is = record {
-    stands = at_later place.letter journal more place.entry p (slice_get journal place.entry) refl is.stands;
+    stands = stands_later journal more place p is.stands;
     id_is = is.id_is;
     from_is = is.from_is;
     to_is = is.to_is;
@@ -169,26 +189,28 @@ module _ {B : Type 0} where
       places_append journal (take i places) (drop (suc i) places) (take i packets) (drop (suc i) packets) (places_take journal i places packets are) (places_drop journal (suc i) places packets are)
 
   -- the letters of a post stand at their places
-  letters_stand : (journal : List (JournalEntry B)) (entry k first : ℕ) (from : Actor) (letters : List (Letter B)) (packets : List (Packet B)) →
-      ((i : ℕ) → packet_in i (slice_get journal entry) ≡ slice_get packets i) → ((i : ℕ) (p : Packet B) → slice_get (numbered_letters first from letters) i ≡ Some p → slice_get packets (k + i) ≡ Some p) →
-      ArePlacesOf journal (placed entry k first from letters) (numbered_letters first from letters)
-  letters_stand journal entry k first from [] packets post among = tt
-  letters_stand journal entry k first from (l ∷ letters) packets post among =
-      let here : k + 0 ≡ k = omega arith in (
+  letters_stand : (journal : List (JournalEntry B)) (first : ℕ) (from : Actor) (letters : List (Letter B)) →
+      ((i : ℕ) (p : Packet B) → slice_get (numbered_letters first from letters) i ≡ Some p → slice_get (packets_posted journal) (first + i) ≡ Some p) →
+      ArePlacesOf journal (placed first from letters) (numbered_letters first from letters)
+  letters_stand journal first from [] among = tt
+  letters_stand journal first from (l ∷ letters) among =
+      let here : first ≡ first + 0 = omega arith in (
         record {
-          stands = post k ∙ ap (slice_get packets) (sym here) ∙ among 0 (packet_as first from l) refl;
+          stands = ap (slice_get (packets_posted journal)) here ∙ among 0 (packet_as first from l) refl;
           id_is = refl;
           from_is = refl;
           to_is = refl;
         },
-        letters_stand journal entry (k + 1) (first + 1) from letters packets post
-            (λ i p h. let next : k + 1 + i ≡ k + suc i = omega arith in ap (slice_get packets) next ∙ among (suc i) p h),
+        letters_stand journal (first + 1) from letters
+            (λ i p h. let next : first + 1 + i ≡ first + suc i = omega arith in ap (slice_get (packets_posted journal)) next ∙ among (suc i) p h),
       )
 
-  pub post_stands : (journal : List (JournalEntry B)) (first count lost : ℕ) (from : Actor) (letters : List (Letter B)) →
-      ArePlacesOf (journal ++ Post from first letters lost ∷ []) (placed (length journal) 0 first from (take count letters)) (numbered_letters first from (take count letters))
-  post_stands journal first count lost from letters =
-      letters_stand (journal ++ Post from first letters lost ∷ []) (length journal) 0 first from (take count letters) (numbered_letters first from letters)
-      (λ i. ap (packet_in i) (slice_get-last journal (Post from first letters lost)) ∙ numbered_at first from letters i)
-      (λ i p h. let zero_plus : 0 + i ≡ i = omega arith in
-      ap (slice_get (numbered_letters first from letters)) zero_plus ∙ slice_get-front count (numbered_letters first from letters) i p (ap (λ ps. slice_get ps i) (sym (numbered-take count first from letters)) ∙ h))
+  pub post_stands : (journal : List (JournalEntry B)) (first count lost : ℕ) (from : Actor) (letters : List (Letter B)) → first ≡ length (packets_posted journal) →
+      ArePlacesOf (journal ++ Post from first letters lost ∷ []) (placed first from (take count letters)) (numbered_letters first from (take count letters))
+  post_stands journal first count lost from letters is =
+      letters_stand (journal ++ Post from first letters lost ∷ []) first from (take count letters) (λ i p h.
+      let posted = numbered_letters first from letters in
+      let behind : first + i ≡ length (packets_posted journal) + i = omega (arith, is) in
+      ap (λ (ps : List (Packet B)). slice_get ps (first + i)) (flat_map-append packets_in journal (Post from first letters lost ∷ []))
+      ∙ slice_get-behind (packets_posted journal) (posted ++ []) (first + i) i behind
+      ∙ slice_get-append posted [] i p (slice_get-front count posted i p (ap (λ ps. slice_get ps i) (sym (numbered-take count first from letters)) ∙ h)))

@@ -1,10 +1,10 @@
 -- What waits in slots, as they come and go.
-use Rattle.std.proofs.Common.{◌≡◌, ◌<◌, ◌≤◌, ℕ, ◌+◌, ◌-◌, ◌^◌, Bool, true, false, Option, Some, None, List, [], ◌∷◌, ◌++◌, length, map, take, set}
-use Rattle.std.proofs.Common.{refl, sym, ap, ◌∙◌, arith, subst, zero, suc}
+use Rattle.std.proofs.Common.{◌≡◌, ◌<◌, ◌≤◌, ℕ, ◌+◌, ◌-◌, Bool, true, false, Option, Some, None, List, [], ◌∷◌, ◌++◌, length, map, take, set}
+use Rattle.std.proofs.Common.{refl, sym, ap, ◌∙◌, arith, zero, suc}
 use Rattle.std.specs.Prelude.{not, nat_eq, replicate, get_or, is_some, slice_get, option_map, if◌then◌else◌}
 use Rattle.std.proofs.lemmas.Bool.{eqb-true, eq-eqb}
 use Rattle.std.proofs.lemmas.Option.{get_or_from_slice_get, slice_get-get_or, slice_get_past}
-use Rattle.std.proofs.lemmas.List.{append-nil, length-append, length-map, length-set, length-take, length-replicate}
+use Rattle.std.proofs.lemmas.List.{append-nil, length-append, length-take, length-replicate}
 use Rattle.journal.specs.declared.journal.Actor.{Actor}
 use Rattle.journal.specs.declared.journal.Letter.{Letter}
 use Rattle.journal.specs.Order.{addressed, without_packet, awaited, HaveNumbersBelow, IsClearBelow, IsLowest}

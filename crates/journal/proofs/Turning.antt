@@ -19,20 +19,16 @@ use Rattle.journal.specs.Actors.{same_actor}
 use Rattle.journal.specs.Ledger.{found_in, entry_by, IsReady, Waits, IsLedger}
 use Rattle.journal.specs.Orderly.{lost_of, pool_bytes, fitting_count}
 use Rattle.journal.specs.Order.{waiter_of, addressed}
-use Rattle.journal.specs.Places.{IsFound, packet_as, placed, queue_of, sent_to}
+use Rattle.journal.specs.Places.{IsFound, packet_as, packets_posted, placed, queue_of, sent_to}
 use Rattle.journal.specs.Pool.{past, pool, numbered_letters, fitting, waiting, letters_posted, letter_bytes}
 use Rattle.journal.specs.Refusals.{MayBeRefused}
 use Rattle.journal.specs.Turns.{posting, entry_of}
 use Rattle.journal.proofs.Kept.{IsKept-post, IsKept-input, IsKept-refused, entry_by-entry_of}
-use Rattle.journal.proofs.Lists.{past-push, numbered-take}
-use Rattle.journal.proofs.Placing.{found_later, places_later, places_append, places_for, post_stands}
+use Rattle.journal.proofs.Lists.{length-numbered, past-push, numbered-take}
+use Rattle.journal.proofs.Placing.{found_later, places_later, places_append, places_for, post_stands, posted_count}
 use Rattle.journal.proofs.Waiters.{waiters-numbered}
 
 module _ {B : Type 0} where
-  length-numbered : (first : ℕ) (a : Actor) (letters : List (Letter B)) → length (numbered_letters first a letters) ≡ length letters
-  length-numbered first a [] = refl
-  length-numbered first a (l ∷ letters) = let rest = length-numbered (first + 1) a letters in omega (arith, rest)
-
   bytes-numbered : (size : B → ℕ) (first : ℕ) (a : Actor) (letters : List (Letter B)) → pool_bytes size (numbered_letters first a letters) ≡ letter_bytes size letters
   bytes-numbered size first a [] = refl
   bytes-numbered size first a (l ∷ letters) =
@@ -43,12 +39,12 @@ module _ {B : Type 0} where
 
   -- letters came to the end of a pool
   Waits-more : (size : B → ℕ) (journal : List (JournalEntry B)) (packets : List (Packet B)) (queues after : Queues) (waits now : Sums) (first count lost : ℕ) (a : Actor) (letters : List (Letter B)) →
-      Waits size journal packets queues waits → count ≤ length letters →
-      ((receiver : Actor) → queue_of after receiver ≡ queue_of queues receiver ++ sent_to receiver (placed (length journal) 0 first a (take count letters))) →
+      Waits size journal packets queues waits → first ≡ length (packets_posted journal) → count ≤ length letters →
+      ((receiver : Actor) → queue_of after receiver ≡ queue_of queues receiver ++ sent_to receiver (placed first a (take count letters))) →
       after.order ≡ queues.order ++ addressed first (take count letters) →
       now.letters ≡ waits.letters + count → now.bytes ≡ waits.bytes + letter_bytes size (take count letters) →
       Waits size (journal ++ Post a first letters lost ∷ []) (packets ++ numbered_letters first a (take count letters)) after now
-  Waits-more size journal packets queues after waits now first count lost a letters is within queues_are order_is letters_are bytes_are =
+  Waits-more size journal packets queues after waits now first count lost a letters is next within queues_are order_is letters_are bytes_are =
       let more = numbered_letters first a (take count letters) in
       let long = length-numbered first a (take count letters) in
       let taken = length-take-le count letters within in
@@ -62,9 +58,9 @@ module _ {B : Type 0} where
             ∙ ap (λ ws. map waiter_of packets ++ ws) (sym (waiters-numbered first a (take count letters)))
             ∙ sym (map-append waiter_of packets more);
         queues_are = λ r. rw (queues_are r, filter-append (λ p. same_actor p.to r) packets more)
-            (places_append (journal ++ Post a first letters lost ∷ []) (queue_of queues r) (sent_to r (placed (length journal) 0 first a (take count letters))) (waiting r packets) (waiting r more)
+            (places_append (journal ++ Post a first letters lost ∷ []) (queue_of queues r) (sent_to r (placed first a (take count letters))) (waiting r packets) (waiting r more)
             (places_later journal (Post a first letters lost ∷ []) (queue_of queues r) (waiting r packets) (is.queues_are r))
-            (places_for (journal ++ Post a first letters lost ∷ []) r (placed (length journal) 0 first a (take count letters)) more (post_stands journal first count lost a letters)));
+            (places_for (journal ++ Post a first letters lost ∷ []) r (placed first a (take count letters)) more (post_stands journal first count lost a letters next)));
       }
 
   -- a journal grew by an entry
@@ -93,6 +89,7 @@ module _ {B : Type 0} where
       IsPosted size a letters start after
   posts size a letters start prepared after ready some kept is entries_are coming_are next_is queues_are posted_are waiting_are =
       let before = past start.entries.items in
+      let placed = is.are_placed in
       let entry : JournalEntry B = Post a start.posted.letters letters ready.lost in
       let now : after.entries.items ≡ start.entries.items ++ entry ∷ [] =
       entries_are
@@ -101,22 +98,22 @@ module _ {B : Type 0} where
       ∙ ap (λ n. start.entries.items ++ Post a n letters ready.lost ∷ []) (is.next_same ∙ kept.next) in
       let past_now : past after.entries.items ≡ entry ∷ before = ap past now ∙ past-push start.entries.items entry in
       let lost_is : ready.lost ≡ lost_of size (pool before) letters =
-      is.lost_is
-      ∙ ap (λ n. length letters - n) is.count_is
+      placed.lost_is
+      ∙ ap (λ n. length letters - n) placed.count_is
       ∙ ap (λ n. length letters - fitting_count size n start.waiting.bytes letters) kept.waits.letters_are
       ∙ ap (λ n. length letters - fitting_count size (length (pool before)) n letters) kept.waits.bytes_are in
-      let fits : length letters - ready.lost ≡ is.count = omega (arith, is.lost_is, is.count_within) in
-      let come : fitting start.posted.letters a letters ready.lost ≡ numbered_letters start.posted.letters a (take is.count letters) =
-      ap (λ n. take n (numbered_letters start.posted.letters a letters)) fits ∙ sym (numbered-take is.count start.posted.letters a letters) in
+      let fits : length letters - ready.lost ≡ placed.count = omega (arith, placed.lost_is, placed.count_within) in
+      let come : fitting start.posted.letters a letters ready.lost ≡ numbered_letters start.posted.letters a (take placed.count letters) =
+      ap (λ n. take n (numbered_letters start.posted.letters a letters)) fits ∙ sym (numbered-take placed.count start.posted.letters a letters) in
       let waits =
-      Waits-more size start.entries.items (pool before) start.queues prepared.queues start.waiting ready.waiting start.posted.letters is.count ready.lost
-      a letters kept.waits is.count_within is.queues_are is.order_is is.waiting_letters is.waiting_bytes in
+      Waits-more size start.entries.items (pool before) start.queues prepared.queues start.waiting ready.waiting start.posted.letters placed.count ready.lost
+      a letters kept.waits (kept.kept.next_is ∙ posted_count start.entries.items) placed.count_within placed.queues_are placed.order_is placed.waiting_letters placed.waiting_bytes in
       record {
         kept = record {
-          kept = rw (past_now, posted_are) (IsKept-post size before start.posted.letters start.posted.bytes ready.lost a letters ready.posted kept.kept lost_is is.summed);
+          kept = rw (past_now, posted_are) (IsKept-post size before start.posted.letters start.posted.bytes ready.lost a letters ready.posted kept.kept lost_is placed.summed);
           waits = rw (past_now, now, queues_are, waiting_are, come) waits;
           coming = coming_are;
-          next = omega (arith, next_is, is.next_same, kept.next, ap length is.coming_is, is.summed.letters_are, ap (λ (s : Sums). s.letters) posted_are);
+          next = omega (arith, next_is, is.next_same, kept.next, ap length is.coming_is, placed.summed.letters_are, ap (λ (s : Sums). s.letters) posted_are);
           room = λ may. absurd (subst (λ (es : List (JournalEntry B)). MayBeRefused es) past_now may);
         };
         entries_are = now ∙ ap (λ es. start.entries.items ++ es) (posting_some size a letters before start.posted.letters ready.lost some kept.kept.next_is lost_is);

@@ -1,11 +1,10 @@
 -- The entries of a journal, kept apart from their letters.
-use Rattle.std.specs.Prelude.{◌≡◌, ℕ, ◌+◌, List, [], ◌∷◌, length, take, drop, slice_get, Option, Some, None}
+use Rattle.std.specs.Prelude.{◌≡◌, ℕ, ◌+◌, List, [], ◌∷◌, length, take, drop}
 use Rattle.journal.specs.declared.entries.Head.{Head}
 use Rattle.journal.specs.declared.entries.Head.TheVariants as head
 use Rattle.journal.specs.declared.journal.JournalEntry.{JournalEntry}
 use Rattle.journal.specs.declared.journal.JournalEntry.TheVariants.{Post, Draw, Lose, Local, Idle, Refused}
 use Rattle.journal.specs.declared.journal.Letter.{Letter}
-use Rattle.journal.specs.declared.place.PacketPlace.{PacketPlace}
 
 -- what contracts see of entries: they themselves, the letters of a post that is to come
 -- with the number of the first, and for how many more there is memory
@@ -62,12 +61,3 @@ StartsAt from _ = Unit {0}
 abbrev pub Tile : ℕ → List Head → ℕ → Type 0
 Tile from [] to = from ≡ to
 Tile from (h ∷ heads) to = StartsAt from h × Tile (from + letter_count h) heads to
-
--- the number of letter k of a post
-abbrev pub number_in : ℕ → Option Head → Option ℕ
-number_in k (Some (head.Post actor first count lost)) = Some (first + k)
-number_in k _ = None
-
--- the number of the letter at a place
-abbrev pub letter_number : PacketPlace → List Head → Option ℕ
-letter_number place heads = number_in place.letter (slice_get heads place.entry)

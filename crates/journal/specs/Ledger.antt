@@ -65,20 +65,25 @@ pub record IsUnchanged {B G : Type 0} (before after : Ledger B G) : Type 0 where
   pub waiting_same : after.waiting ≡ before.waiting
 
 -- the letters of an outbox that find room have come into the queues
+pub record ArePlaced {B : Type 0} (size : B → ℕ) (a : Actor) (letters : List (Letter B)) (posted waiting : Sums) (before after : Queues) (ready : Ready) : Type 0 where
+  pub count : ℕ
+  pub count_is : count ≡ fitting_count size waiting.letters waiting.bytes letters
+  pub count_within : count ≤ length letters
+  pub lost_is : ready.lost ≡ length letters - count
+  pub queues_are : (receiver : Actor) → queue_of after receiver ≡ queue_of before receiver ++ sent_to receiver (placed posted.letters a (take count letters))
+  pub order_is : after.order ≡ before.order ++ addressed posted.letters (take count letters)
+  pub waiting_letters : ready.waiting.letters ≡ waiting.letters + count
+  pub waiting_bytes : ready.waiting.bytes ≡ waiting.bytes + letter_bytes size (take count letters)
+  pub summed : IsSummed size posted.letters posted.bytes letters ready.posted
+
+-- an outbox has all that may fail of its post behind it
 pub record IsReady {B G : Type 0} (size : B → ℕ) (a : Actor) (letters : List (Letter B)) (before after : Ledger B G) (ready : Ready) : Type 0 where
   pub entries_same : after.entries.items ≡ before.entries.items
   pub coming_is : after.entries.coming ≡ letters
   pub next_same : after.entries.next ≡ before.entries.next
   pub posted_same : after.posted ≡ before.posted
-  pub count : ℕ
-  pub count_is : count ≡ fitting_count size before.waiting.letters before.waiting.bytes letters
-  pub count_within : count ≤ length letters
-  pub lost_is : ready.lost ≡ length letters - count
-  pub queues_are : (receiver : Actor) → queue_of after.queues receiver ≡ queue_of before.queues receiver ++ sent_to receiver (placed (length before.entries.items) 0 before.posted.letters a (take count letters))
-  pub order_is : after.queues.order ≡ before.queues.order ++ addressed before.posted.letters (take count letters)
-  pub waiting_letters : ready.waiting.letters ≡ before.waiting.letters + count
-  pub waiting_bytes : ready.waiting.bytes ≡ before.waiting.bytes + letter_bytes size (take count letters)
-  pub summed : IsSummed size before.posted.letters before.posted.bytes letters ready.posted
+  pub waiting_same : after.waiting ≡ before.waiting
+  pub are_placed : ArePlaced size a letters before.posted before.waiting before.queues after.queues ready
 
 -- what is kept of packets that wait, in the order of their numbers: the numbers and receivers of all, for each actor the
 -- places of those for it, how many there are, and the bytes of their bodies

@@ -1,5 +1,5 @@
 -- Letters whose bodies are bytes, one behind another.
-use Rattle.std.specs.Prelude.{◌≡◌, ◌≤◌, ℕ, ◌+◌, List, [], ◌∷◌, ◌++◌, length, take, drop, slice_get, Result, Ok, Some}
+use Rattle.std.specs.Prelude.{◌≡◌, ◌≤◌, ℕ, zero, suc, ◌+◌, List, [], ◌∷◌, ◌++◌, take, drop, slice_get, Result, Ok, Some}
 use Rattle.std.specs.declared.alloc.AllocError.{AllocError}
 use Rattle.std.specs.List.{AllByRecursion}
 use Rattle.std.specs.Fn.{FnOnceReturnsAtMut, Once}
@@ -39,18 +39,15 @@ moved base slip = record { to = slip.to; body = moved_body base slip.body }
 abbrev pub HasBody : {B : Type 0} → List (Letter B) → ℕ → B → Type 0
 HasBody letters index body = (letter : Letter _) × (slice_get letters index ≡ Some letter) × (letter.body ≡ body)
 
--- a call puts bytes into a list, which was the one and is now the other
-abbrev pub Puts : {F : Type 0} → Once F (MutBor (List ℕ) × Unit {0}) (Result (Unit {0}) AllocError × (MutBor (List ℕ) × Unit {0})) → F → List ℕ → List ℕ → Type 0
-Puts calls put before after = FnOnceReturnsAtMut calls put before (Ok tt) after
+-- letters, of which that of an index gave its body away
+abbrev pub emptied : ℕ → List (Letter (List ℕ)) → List (Letter (List ℕ))
+emptied index [] = []
+emptied zero (letter ∷ letters) = record { to = letter.to; body = [] } ∷ letters
+emptied (suc index) (letter ∷ letters) = letter ∷ emptied index letters
 
--- it puts them behind what is there
-abbrev pub PutsBehind : {F : Type 0} → Once F (MutBor (List ℕ) × Unit {0}) (Result (Unit {0}) AllocError × (MutBor (List ℕ) × Unit {0})) → F → Type 0
-PutsBehind calls put = (before after : List ℕ) → Puts calls put before after → (body : List ℕ) × (after ≡ before ++ body)
-
--- a letter came to others, with what the call put for its body
+-- a letter came to others, with what the call put into an empty list for its body
 pub record AddsPut {F : Type 0} (calls : Once F (MutBor (List ℕ) × Unit {0}) (Result (Unit {0}) AllocError × (MutBor (List ℕ) × Unit {0}))) (put : F)
     (to : Actor) (old new : List (Letter (List ℕ))) : Type 0 where
-  pub before : List ℕ
-  pub after : List ℕ
-  pub puts : Puts calls put before after
-  pub adds : (body : List ℕ) → after ≡ before ++ body → new ≡ old ++ record { to = to; body = body } ∷ []
+  pub body : List ℕ
+  pub puts : FnOnceReturnsAtMut calls put [] (Ok tt) body
+  pub adds : new ≡ old ++ record { to = to; body = body } ∷ []

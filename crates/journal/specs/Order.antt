@@ -1,10 +1,9 @@
 -- The order in which packets wait: the number and the receiver of each, the lowest number first.
-use Rattle.std.specs.Prelude.{◌<◌, ℕ, zero, suc, ◌+◌, not, nat_eq, Bool, List, [], ◌∷◌, length, filter, Option, Some, None, if◌then◌else◌}
+use Rattle.std.specs.Prelude.{◌<◌, ℕ, zero, suc, ◌+◌, not, nat_eq, List, [], ◌∷◌, filter, Option, Some, None}
 use Rattle.std.specs.List.{AllByRecursion}
 use Rattle.journal.specs.declared.journal.Actor.{Actor}
 use Rattle.journal.specs.declared.journal.Letter.{Letter}
 use Rattle.journal.specs.declared.journal.Packet.{Packet}
-use Rattle.journal.specs.declared.place.PacketPlace.{PacketPlace}
 
 -- the number and the receiver of a packet
 abbrev pub waiter_of : {B : Type 0} → Packet B → ℕ × Actor
@@ -22,11 +21,6 @@ HaveNumbersBelow number order = AllByRecursion (λ w. w.0 < number) order
 -- those of other numbers
 abbrev pub without_packet : ℕ → List (ℕ × Actor) → List (ℕ × Actor)
 without_packet number order = filter (λ w. not (nat_eq w.0 number)) order
-
--- an order once a packet was picked, which goes on waiting where it is kept
-abbrev pub order_left : Bool → Option PacketPlace → List (ℕ × Actor) → List (ℕ × Actor)
-order_left keep None order = order
-order_left keep (Some place) order = if keep then order else without_packet place.id order
 
 -- a slot for each number from there on: those that have a receiver
 abbrev pub awaited : ℕ → List (Option Actor) → List (ℕ × Actor)

@@ -1,5 +1,5 @@
 -- Where the letters of packets stand in a journal, and queues of such places.
-use Rattle.std.specs.Prelude.{◌≡◌, ℕ, ◌+◌, ◌%◌, Bool, List, [], ◌∷◌, length, get_or, filter, slice_get, option_map, Option, Some, None, if◌then◌else◌}
+use Rattle.std.specs.Prelude.{◌≡◌, ℕ, ◌+◌, ◌%◌, List, [], ◌∷◌, length, get_or, filter, flat_map, slice_get, option_map, Option, Some, None}
 use Rattle.std.specs.List.{remove}
 use Rattle.journal.specs.declared.journal.Actor.{Actor}
 use Rattle.journal.specs.declared.journal.Actor.TheVariants.{Controller, Switch}
@@ -10,24 +10,28 @@ use Rattle.journal.specs.declared.journal.Packet.{Packet}
 use Rattle.journal.specs.declared.place.PacketPlace.{PacketPlace}
 use Rattle.journal.specs.declared.queues.Queues.{Queues}
 use Rattle.journal.specs.Actors.{same_actor}
+use Rattle.journal.specs.Pool.{numbered_letters}
 
 -- a letter as the packet of this number
 abbrev pub packet_as : {B : Type 0} → ℕ → Actor → Letter B → Packet B
 packet_as id from letter = record { id = id; from = from; to = letter.to; body = letter.body }
 
--- letter k of a post: numbered first + k, from the post's actor, to the letter's receiver, with its body
-abbrev pub packet_in : {B : Type 0} → ℕ → Option (JournalEntry B) → Option (Packet B)
-packet_in k None = None
-packet_in k (Some (Post actor first letters lost)) = option_map (λ letter. packet_as (first + k) actor letter) (slice_get letters k)
-packet_in k (Some (Draw actor id keep)) = None
-packet_in k (Some (Lose actor id)) = None
-packet_in k (Some (Local actor input)) = None
-packet_in k (Some (Idle actor)) = None
-packet_in k (Some (Refused actor)) = None
+-- the packets that an entry posts, the lost ones too: letter k of a post is numbered first + k, from the post's actor
+abbrev pub packets_in : {B : Type 0} → JournalEntry B → List (Packet B)
+packets_in (Post actor first letters lost) = numbered_letters first actor letters
+packets_in (Draw actor id keep) = []
+packets_in (Lose actor id) = []
+packets_in (Local actor input) = []
+packets_in (Idle actor) = []
+packets_in (Refused actor) = []
 
--- the packet of a place: letter k of the post at entry i, in a journal with its oldest entry first
+-- all packets that a journal posts, its oldest entry first
+abbrev pub packets_posted : {B : Type 0} → List (JournalEntry B) → List (Packet B)
+packets_posted journal = flat_map packets_in journal
+
+-- the packet of a place: the one of its number among all that the journal posts
 abbrev pub packet_at : {B : Type 0} → PacketPlace → List (JournalEntry B) → Option (Packet B)
-packet_at place journal = packet_in place.letter (slice_get journal place.entry)
+packet_at place journal = slice_get (packets_posted journal) place.id
 
 -- the packet stands at the place, which tells its number, its sender and its receiver
 pub record IsPlaceOf {B : Type 0} (journal : List (JournalEntry B)) (place : PacketPlace) (p : Packet B) : Type 0 where
@@ -50,11 +54,10 @@ ArePlacesOf journal [] (p ∷ packets) = ⊥
 ArePlacesOf journal (place ∷ places) [] = ⊥
 ArePlacesOf journal (place ∷ places) (p ∷ packets) = IsPlaceOf journal place p × ArePlacesOf journal places packets
 
--- the places of letters from letter k on of the post at an entry, numbered from there on
-abbrev pub placed : {B : Type 0} → ℕ → ℕ → ℕ → Actor → List (Letter B) → List PacketPlace
-placed entry k first from [] = []
-placed entry k first from (letter ∷ letters) =
-    record { id = first; from = from; to = letter.to; entry = entry; letter = k } ∷ placed entry (k + 1) (first + 1) from letters
+-- the places of letters, numbered from there on
+abbrev pub placed : {B : Type 0} → ℕ → Actor → List (Letter B) → List PacketPlace
+placed first from [] = []
+placed first from (letter ∷ letters) = record { id = first; from = from; to = letter.to } ∷ placed (first + 1) from letters
 
 -- those of them for an actor
 abbrev pub sent_to : Actor → List PacketPlace → List PacketPlace
@@ -72,9 +75,9 @@ queue_of queues (Switch n) = get_or queues.switches n []
 abbrev pub picked : ℕ → List PacketPlace → Option PacketPlace
 picked choice places = slice_get places (choice % length places)
 
--- a queue once its place of a choice was picked
-abbrev pub left_in : ℕ → Bool → List PacketPlace → List PacketPlace
-left_in choice keep places = if keep then places else remove places (choice % length places)
+-- a queue once its place of a choice has left
+abbrev pub left_in : ℕ → List PacketPlace → List PacketPlace
+left_in choice places = remove places (choice % length places)
 
 -- the first place in the queue of a receiver
 abbrev pub first_for : Queues → Option Actor → Option PacketPlace

@@ -1,14 +1,15 @@
 //! The entries of a journal, and the letters of all its posts.
-ghost use Rattle.std.specs.Prelude.{◌≡◌, ◌<◌, ◌≤◌, ℕ, ◌+◌, ◌^◌, ◌++◌, [], ◌∷◌, length, map, take, drop, Some, IsSome, IfSome, IfOk, OnOk, OnErr};
+ghost use Rattle.std.specs.Prelude.{◌≡◌, ◌<◌, ◌≤◌, ℕ, ◌+◌, ◌^◌, ◌++◌, [], ◌∷◌, length, map, take, drop, IsSome, IfSome, IfOk, OnOk, OnErr};
 ghost use Rattle.std.specs.Vec.Iter.{into_iter_items};
 ghost use Rattle.journal.specs.declared.journal.JournalEntry.TheVariants as entries;
-ghost use Rattle.journal.specs.Entries.{IsBare, Tile, entry_without, letter_count, whole_entry, entry_with, head_of, letter_number};
+ghost use Rattle.journal.specs.Entries.{IsBare, Tile, entry_without, letter_count, whole_entry, entry_with, head_of};
 ghost use Rattle.journal.specs.Mailbags.{HasBody};
 ghost use Rattle.journal.specs.Places.{packet_at};
 
 use crate::journal::{Actor, Journal, JournalEntry, Letter, Local, Weight};
 use crate::letters::Letters;
 use crate::mailbag::Mailbag;
+use crate::outgoing::{Coming, Outgoing};
 use crate::place::PacketPlace;
 use of_types::Items;
 use std::alloc::{AllocError, Global};
@@ -76,17 +77,6 @@ impl<B: Weight> Model for Entries<B> {
     ghost invariant = { λ e. (e.posted ≤ length e.letters) × Tile 0 e.heads.items e.posted };
 }
 
-/// The number of the letter at a place, where the posts have so many letters.
-fn letter_number(heads: &[Head], place: PacketPlace, posted: usize) -> usize
-    requires { (n : ℕ) × (letter_number place heads.now ≡ Some n) × (n < posted) }
-    ensures { letter_number place heads.now ≡ Some result }
-{
-    match &heads[place.entry] {
-        Head::Post { first, .. } => *first + place.letter,
-        _ => unreachable!(),
-    }
-}
-
 impl<B: Weight> Entries<B> {
     /// No entry.
     pub fn new(alloc: Global) -> Entries<B>
@@ -141,13 +131,26 @@ impl<B: Weight> Entries<B> {
         self.heads.push_reserved(head);
     }
 
-    /// Copies letters here, for a post that is to come. An `Err` changes nothing.
-    pub fn prepare(&mut self, letters: &Mailbag<B>) -> Result<(), AllocError>
+    /// Adds letters, for a post that is to come. An `Err` changes nothing.
+    pub fn prepare<P: Outgoing<B>>(&mut self, post: &P) -> Result<(), AllocError>
         requires { self.old.coming ≡ [] }
-        ensures ok { OnOk result (self.new ≡ record self.old { coming = letters.now }) }
+        ensures ok { OnOk result (self.new ≡ record self.old { coming = P.letters post.now }) }
         ensures err { OnErr result (self.new ≡ self.old) }
     {
-        self.letters.append(letters)
+        match post.add_to(&mut self.letters) {
+            Ok(()) => Ok(()),
+            Err(error) => {
+                self.letters.truncate(self.posted);
+                Err(error)
+            }
+        }
+    }
+
+    /// The letters of a post that is to come.
+    pub fn coming(&self) -> Coming<'_, B>
+        ensures { result ≡ self.now.coming }
+    {
+        Coming::new(&self.letters, self.posted)
     }
 
     /// No post is to come.
@@ -180,8 +183,7 @@ impl<B: Weight> Entries<B> {
         requires { IsSome (packet_at place self.now.items) }
         ensures { IfSome (packet_at place self.now.items) (λ packet. result ≡ B.size packet.body) }
     {
-        self.letters
-            .size(letter_number(self.heads.as_slice(), place, self.posted))
+        self.letters.size(place.id as usize)
     }
 
     /// The letters, and which of them is at a place.
@@ -189,10 +191,19 @@ impl<B: Weight> Entries<B> {
         requires { IsSome (packet_at place self.now.items) }
         ensures { IfSome (packet_at place self.now.items) (λ packet. HasBody result.0.now result.1 packet.body) }
     {
-        (
-            &self.letters,
-            letter_number(self.heads.as_slice(), place, self.posted),
-        )
+        (&self.letters, place.id as usize)
+    }
+
+    /// The entries without their letters, and the letters: those of each post behind those of the one before, and then
+    /// those of one that is to come.
+    pub fn into_parts(self) -> (Vec<Head>, Mailbag<B>)
+        ensures whole { map (whole_entry result.1) result.0.items ≡ self.items }
+        ensures tiled { Tile 0 result.0.items self.next }
+        ensures coming { drop self.next result.1 ≡ self.coming }
+        ensures long { self.next ≤ length result.1 }
+    {
+        let Entries { heads, letters, .. } = self;
+        (heads, letters)
     }
 
     /// The entries with their letters.

@@ -1,20 +1,21 @@
 //! A journal beside the queues of what waits, and the two steps of a turn on it.
-ghost use Rattle.std.specs.Prelude.{◌≡◌, ◌<◌, ◌≤◌, ◌⊎◌, ◌+◌, ◌-◌, ◌++◌, [], ◌∷◌, length, true, false, IfOk, IfErr, OnOk};
+ghost use Rattle.std.specs.Prelude.{◌≡◌, ◌<◌, ◌≤◌, ◌⊎◌, ◌+◌, ◌-◌, ◌++◌, [], ◌∷◌, length, true, false, Some, IfOk, IfErr, OnOk, OnErr};
 ghost use Rattle.journal.specs.Answers.{RefusedBy};
 ghost use Rattle.journal.specs.Entries.{IsBare, entry_without};
 ghost use Rattle.journal.specs.declared.journal.JournalEntry.{JournalEntry};
 ghost use Rattle.journal.specs.declared.journal.JournalEntry.TheVariants as entries;
 ghost use Rattle.journal.specs.declared.journal.Turn.TheVariants as turn;
 ghost use Rattle.journal.specs.Limits.{letters_limit, bytes_limit};
-ghost use Rattle.journal.specs.Ledger.{entry_by, found_in, IsSummed, IsRefusal, IsUnchanged, IsReady, Waits, IsLedger};
-ghost use Rattle.journal.specs.Places.{IsFound};
+ghost use Rattle.journal.specs.Ledger.{entry_by, found_in, IsSummed, IsRefusal, IsUnchanged, ArePlaced, IsReady, Waits, IsLedger};
+ghost use Rattle.journal.specs.Order.{HaveNumbersBelow};
+ghost use Rattle.journal.specs.Places.{IsFound, queue_of};
 ghost use Rattle.journal.specs.Pool.{past, pool, pick};
 ghost use Rattle.journal.specs.Refusals.{MayBeRefused};
 ghost use Rattle.journal.specs.Turns.{posting, drawn_entry, entry_of};
 
 use crate::entries::{Entries, Head};
 use crate::journal::{Actor, Turn, Weight};
-use crate::mailbag::Mailbag;
+use crate::outgoing::{Coming, Outgoing};
 use crate::place::PacketPlace;
 use crate::pool::{self, Sums};
 use crate::queues::Queues;
@@ -52,7 +53,7 @@ fn is_past_limit(bytes: u64, letters: u64) -> bool
 }
 
 /// The sums with those of an outbox, where they pass no limit.
-fn sums_with<B: Weight>(sums: Sums, letters: &Mailbag<B>) -> Result<Sums, Stop>
+fn sums_with<B: Weight>(sums: Sums, letters: &Coming<'_, B>) -> Result<Sums, Stop>
     ensures ok { IfOk result (IsSummed B.size sums.letters sums.bytes letters.now) }
     ensures err { IfErr result (IsRefusal B.size sums.letters sums.bytes letters.now) }
 {
@@ -62,6 +63,31 @@ fn sums_with<B: Weight>(sums: Sums, letters: &Mailbag<B>) -> Result<Sums, Stop>
         return Err(Stop::JournalFull { bytes, letters });
     }
     Ok(Sums { letters, bytes })
+}
+
+/// The letters of a post that find room come into the queues. An `Err` changes none.
+fn place_letters<B: Weight>(
+    queues: &mut Queues,
+    posted: Sums,
+    waiting: Sums,
+    actor: Actor,
+    letters: &Coming<'_, B>,
+) -> Result<Ready, Stop>
+    requires above { HaveNumbersBelow posted.letters queues.old.order }
+    ensures ok { IfOk result (ArePlaced B.size actor letters.now posted waiting queues.old queues.new) }
+    ensures err { IfErr result (IsRefusal B.size posted.letters posted.bytes letters.now) }
+    ensures queues { OnErr result ((a : Actor) → queue_of queues.new a ≡ queue_of queues.old a) }
+    ensures order { OnErr result (queues.new.order ≡ queues.old.order) }
+{
+    let first = posted.letters;
+    let with = sums_with(posted, letters)?;
+    let (count, waiting) = pool::count_fitting(waiting, letters, with.bytes - posted.bytes);
+    queues.append(first, actor, letters, count)?;
+    Ok(Ready {
+        lost: (letters.len() - count) as u64,
+        posted: with,
+        waiting,
+    })
 }
 
 /// The entry of a step, by what it found.
@@ -109,33 +135,29 @@ impl<B: Weight> Ledger<B> {
 
     /// All of a post that may fail, with memory for its entry and `more` further ones. An `Err` changes
     /// nothing.
-    fn prepare(&mut self, actor: Actor, letters: &Mailbag<B>, more: usize) -> Result<Ready, Stop>
+    fn prepare<P: Outgoing<B>>(
+        &mut self,
+        actor: Actor,
+        post: &P,
+        more: usize,
+    ) -> Result<Ready, Stop>
         requires small { more ≤ 2 }
         requires kept { IsLedger B.size self.old }
-        ensures ok { IfOk result (IsReady B.size actor letters.now self.old self.new) }
+        ensures ok { IfOk result (IsReady B.size actor (P.letters post.now) self.old self.new) }
         ensures room { OnOk result (1 + more ≤ self.new.entries.room) }
         ensures grows { self.old.entries.room ≤ self.new.entries.room }
-        ensures err { IfErr result (λ r. IsUnchanged self.old self.new × IsRefusal B.size self.old.posted.letters self.old.posted.bytes letters.now r) }
+        ensures err { IfErr result (λ r. IsUnchanged self.old self.new × IsRefusal B.size self.old.posted.letters self.old.posted.bytes (P.letters post.now) r) }
     {
-        let posted = sums_with(self.posted, letters)?;
         self.entries.reserve(1 + more)?;
-        self.entries.prepare(letters)?;
-        let (count, waiting) = pool::count_fitting(
-            self.waiting,
-            letters,
-            posted.bytes - self.posted.bytes,
-        );
-        let (entry, first) = (self.entries.len(), self.posted.letters);
-        if let Err(error) = self.queues.append(entry, first, actor, letters, count) {
-            self.entries.forget();
-            return Err(Stop::from(error));
+        self.entries.prepare(post)?;
+        let letters = self.entries.coming();
+        match place_letters(&mut self.queues, self.posted, self.waiting, actor, &letters) {
+            Ok(ready) => Ok(ready),
+            Err(stop) => {
+                self.entries.forget();
+                Err(stop)
+            }
         }
-        let lost = (letters.len() - count) as u64;
-        Ok(Ready {
-            lost,
-            posted,
-            waiting,
-        })
     }
 
     /// Makes memory for the first entries, and for their letters.
@@ -157,21 +179,19 @@ impl<B: Weight> Ledger<B> {
         self.entries.reserve(2)
     }
 
-    /// Posts an outbox, with memory for `more` further entries. An `Err` changes nothing. For an empty outbox nothing is done.
-    pub fn post(&mut self, actor: Actor, letters: &Mailbag<B>, more: usize) -> Result<(), Stop>
+    /// Posts an outbox, with memory for `more` further entries. An `Err` changes nothing. One with no letter makes no entry.
+    pub fn post<P: Outgoing<B>>(&mut self, actor: Actor, post: &P, more: usize) -> Result<(), Stop>
         requires small { more ≤ 2 }
         requires kept { IsLedger B.size self.old }
         ensures kept { IsLedger B.size self.new }
-        ensures ok { OnOk result (self.new.entries.items ≡ self.old.entries.items ++ posting B.size actor letters.now (past self.old.entries.items)) }
+        ensures ok { OnOk result (self.new.entries.items ≡ self.old.entries.items ++ posting B.size actor (P.letters post.now) (past self.old.entries.items)) }
         ensures room { OnOk result (more ≤ self.new.entries.room) }
-        ensures err { IfErr result (λ stop. (self.new.entries.items ≡ self.old.entries.items) × RefusedBy B.size stop letters.now (past self.old.entries.items)) }
+        ensures err { IfErr result (λ stop. (self.new.entries.items ≡ self.old.entries.items) × RefusedBy B.size stop (P.letters post.now) (past self.old.entries.items)) }
     {
-        if letters.is_empty() {
-            self.entries.reserve(more)?;
-            return Ok(());
+        let ready = self.prepare(actor, post, more)?;
+        if !self.entries.coming().is_empty() {
+            self.write(actor, ready);
         }
-        let ready = self.prepare(actor, letters, more)?;
-        self.write(actor, ready);
         Ok(())
     }
 
@@ -191,6 +211,23 @@ impl<B: Weight> Ledger<B> {
         self.entries.post(actor, ready.lost);
     }
 
+    /// The packet at a place, which is that of a choice, waits no more, unless it is kept.
+    #[inline(always)]
+    fn leave(&mut self, place: PacketPlace, actor: Actor, choice: u64, keep: bool)
+        requires kept { IsLedger B.size self.old }
+        requires found { IsFound self.old.entries.items (Some place) (pick actor choice (past self.old.entries.items)) }
+        ensures entries { self.new.entries ≡ self.old.entries }
+        ensures posted { self.new.posted ≡ self.old.posted }
+        ensures left { Waits B.size self.old.entries.items (pool (drawn_entry actor keep (pick actor choice (past self.old.entries.items)) ∷ past self.old.entries.items)) self.new.queues self.new.waiting }
+    {
+        if keep {
+            return;
+        }
+        self.queues.leave(actor, choice, place.id);
+        self.waiting.letters -= 1;
+        self.waiting.bytes -= self.entries.size(place);
+    }
+
     /// The packet of a choice, which waits no more, unless it is kept.
     fn pick(&mut self, actor: Actor, choice: u64, keep: bool) -> Option<PacketPlace>
         requires { IsLedger B.size self.old }
@@ -199,11 +236,8 @@ impl<B: Weight> Ledger<B> {
         ensures found { IsFound self.old.entries.items result (pick actor choice (past self.old.entries.items)) }
         ensures left { Waits B.size self.old.entries.items (pool (drawn_entry actor keep (pick actor choice (past self.old.entries.items)) ∷ past self.old.entries.items)) self.new.queues self.new.waiting }
     {
-        let found = self.queues.pick(actor, choice, keep)?;
-        if !keep {
-            self.waiting.letters -= 1;
-            self.waiting.bytes -= self.entries.size(found);
-        }
+        let found = self.look(actor, choice)?;
+        self.leave(found, actor, choice, keep);
         Some(found)
     }
 
@@ -248,20 +282,21 @@ impl<B: Weight> Ledger<B> {
         found
     }
 
-    /// Takes a draw, as `take` does.
-    pub fn draw(&mut self, actor: Actor, choice: u64, keep: bool)
+    /// Takes a draw of the packet at a place, which is that of a choice, as `take` does.
+    #[inline(always)]
+    pub fn draw(&mut self, place: PacketPlace, actor: Actor, choice: u64, keep: bool)
         requires room { 2 ≤ self.old.entries.room }
         requires kept { IsLedger B.size self.old }
+        requires found { IsFound self.old.entries.items (Some place) (pick actor choice (past self.old.entries.items)) }
         ensures kept { IsLedger B.size self.new }
         ensures entries { self.new.entries.items ≡ self.old.entries.items ++ entry_of (turn.Draw actor choice keep) (past self.old.entries.items) ∷ [] }
     {
-        let found = self.pick(actor, choice, keep);
-        let step = Turn::Draw {
+        self.leave(place, actor, choice, keep);
+        self.entries.push(Head::Draw {
             actor,
-            choice,
+            id: place.id,
             keep,
-        };
-        self.entries.push(entry_by::<B>(step, found));
+        });
     }
 
     /// The input of the newest entry found no memory. There is memory for this entry.

@@ -11,6 +11,7 @@ mod letters;
 mod mailbag;
 mod memory;
 mod order;
+mod outgoing;
 mod outside;
 mod packed;
 mod place;
@@ -28,6 +29,7 @@ pub use journal::{
 pub use letters::{Letters, OneOrMany};
 pub use mailbag::Mailbag;
 pub use memory::{MemorySink, MemorySource};
+pub use outgoing::Outgoing;
 pub use outside::{Failed, Sink, Source, Stable};
 pub use packed::Packed;
 pub use place::PacketPlace;

@@ -1,6 +1,6 @@
 //! Letters with their bodies one behind another.
-ghost use Rattle.std.specs.Prelude.{◌≡◌, ◌<◌, ◌++◌, [], ◌∷◌, length, take, slice_get, ◌==◌, IfOk, IfSome, OnOk, OnErr};
-ghost use Rattle.journal.specs.Mailbags.{AddsPut, PutsBehind};
+ghost use Rattle.std.specs.Prelude.{◌≡◌, ◌<◌, ◌++◌, [], ◌∷◌, length, take, slice_get, ◌==◌, IfOk, IfSome, IfNone, OnOk, OnErr};
+ghost use Rattle.journal.specs.Mailbags.{HasBody, emptied, AddsPut};
 
 use crate::journal::{Actor, Letter, Weight};
 use of_types::Octets;
@@ -129,15 +129,25 @@ impl Mailbag<Octets> {
         self.bag.body(index)
     }
 
-    /// Adds a letter with what `put` puts behind other bytes for its body. An `Err` takes all letters out.
+    /// Moves the body of a letter out, where it has a list of its own. An empty one is left there. `None` changes nothing.
+    pub fn take_own(&mut self, index: usize) -> Option<Octets>
+        requires { index < length self.old }
+        ensures body { IfSome result (λ own. HasBody self.old index own) }
+        ensures left { IfSome result (λ _. self.new ≡ emptied index self.old) }
+        ensures none { IfNone result (self.new ≡ self.old) }
+    {
+        self.bag.take_own(index)
+    }
+
+    /// Adds a letter with what `put` puts into an empty list for its body. An `Err` changes nothing.
     pub fn write<F: FnOnce(&mut Octets) -> Result<(), AllocError>>(
         &mut self,
         to: Actor,
         put: F,
     ) -> Result<(), AllocError>
-        requires callable { F.IsAlwaysCallable put }
-        requires behind { PutsBehind F.FnOnce put }
-        ensures { OnOk result (AddsPut F.FnOnce put to self.old self.new) }
+        requires { F.IsAlwaysCallable put }
+        ensures ok { OnOk result (AddsPut F.FnOnce put to self.old self.new) }
+        ensures err { OnErr result (self.new ≡ self.old) }
     {
         self.bag.write(to, put)
     }

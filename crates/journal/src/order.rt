@@ -3,7 +3,7 @@ ghost use Rattle.std.specs.Prelude.{◌≡◌, ◌<◌, ◌≤◌, ◌+◌, ◌^
 ghost use Rattle.journal.specs.Order.{addressed, without_packet, HaveNumbersBelow, IsClearBelow, IsLowest};
 
 use crate::journal::{Actor, Weight};
-use crate::mailbag::Mailbag;
+use crate::outgoing::Coming;
 use std::alloc::{AllocError, Global};
 use std::marker::Model;
 
@@ -41,7 +41,7 @@ fn lowest_from(slots: &[Option<Actor>], number: usize) -> usize
 }
 
 /// Adds a slot for each of so many letters. There is memory for them.
-fn push_each<B: Weight>(slots: &mut Vec<Option<Actor>>, letters: &Mailbag<B>, count: usize)
+fn push_each<B: Weight>(slots: &mut Vec<Option<Actor>>, letters: &Coming<'_, B>, count: usize)
     requires within { count ≤ length letters.now }
     requires room { vec_len slots.old + count ≤ vec_capacity slots.old }
     ensures { slots.new.items ≡ slots.old.items ++ map (λ letter. Some letter.to) (take count letters.now) }
@@ -66,7 +66,7 @@ impl Order {
     pub fn append<B: Weight>(
         &mut self,
         number: u64,
-        letters: &Mailbag<B>,
+        letters: &Coming<'_, B>,
         count: usize,
     ) -> Result<(), AllocError>
         requires within { count ≤ length letters.now }

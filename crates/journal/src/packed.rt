@@ -1,11 +1,14 @@
 //! Letters whose bodies are bytes, one behind another.
-ghost use Rattle.std.specs.Prelude.{◌≡◌, ◌<◌, ◌≤◌, ℕ, ◌+◌, ◌++◌, List, [], ◌∷◌, length, ◌-◌, ◌^◌, map, take, drop, vec_len, slice_get, IfOk, IfSome, OnOk, OnErr};
-ghost use Rattle.journal.specs.Mailbags.{body_of, letter_of, moved, ShareWithin, IsWithin, AddsPut, PutsBehind};
+ghost use Rattle.std.specs.Prelude.{◌≡◌, ◌<◌, ◌≤◌, ℕ, ◌+◌, ◌++◌, List, [], ◌∷◌, length, ◌-◌, ◌^◌, map, take, drop, vec_len, slice_get, IfOk, IfSome, IfNone, OnOk, OnErr};
+ghost use Rattle.list_facts.specs.Lists.{IsPrefix};
+ghost use Rattle.journal.specs.Mailbags.{body_of, letter_of, moved, ShareWithin, IsWithin, HasBody, emptied, AddsPut};
+ghost use Rattle.journal.specs.declared.packed.Stored.TheVariants as stored;
 
 use crate::journal::{Actor, Letter};
 use of_types::Octets;
 use std::alloc::{AllocError, Global};
 use std::marker::Model;
+use std::mem::replace;
 
 /// A body of so many bytes or more has a list of its own, so that it can be moved.
 const LONG: usize = 512;
@@ -37,6 +40,8 @@ pub struct Packed {
     slips: Vec<Slip>,
     /// The short bodies, one behind another. Several letters may have the same bytes.
     bytes: Octets,
+    /// Room for a body as it is written, so that a refusal leaves the others as they are.
+    draft: Octets,
 }
 
 impl Model for Packed {
@@ -62,20 +67,20 @@ fn bytes_of<'a>(bytes: &'a [u8], body: &'a Stored) -> &'a [u8]
     }
 }
 
-/// The bytes from there on as a body. A long one takes them out.
-fn body_from(alloc: Global, bytes: &mut Octets, start: usize) -> Result<Stored, AllocError>
-    requires { start ≤ length bytes.old }
-    ensures body { IfOk result (λ body. body_of bytes.new body ≡ drop start bytes.old) }
-    ensures within { IfOk result (λ body. IsWithin (length bytes.new) body) }
-    ensures front { (start ≤ length bytes.new) × (take start bytes.new ≡ take start bytes.old) }
+/// A body for a bag with these bytes: a short one comes behind them. An `Err` changes nothing.
+fn store_body(alloc: Global, bytes: &mut Octets, body: &[u8]) -> Result<Stored, AllocError>
+    ensures body { IfOk result (λ stored. body_of bytes.new stored ≡ body.now) }
+    ensures within { IfOk result (λ stored. IsWithin (length bytes.new) stored) }
+    ensures behind { IsPrefix bytes.old bytes.new }
+    ensures err { OnErr result (bytes.new ≡ bytes.old) }
 {
-    let len = bytes.len() - start;
-    if len < LONG {
-        return Ok(Stored::Shared { start, len });
+    let len = body.len();
+    if len >= LONG {
+        return Ok(Stored::Own(Octets::from_slice(alloc, body)?));
     }
-    let own = Octets::from_slice(alloc, &bytes.as_slice()[start..])?;
-    bytes.truncate(start);
-    Ok(Stored::Own(own))
+    let start = bytes.len();
+    bytes.append(body)?;
+    Ok(Stored::Shared { start, len })
 }
 
 impl Packed {
@@ -86,6 +91,7 @@ impl Packed {
         Packed {
             slips: Vec::new(alloc),
             bytes: Octets::new(alloc),
+            draft: Octets::new(alloc),
         }
     }
 
@@ -134,6 +140,17 @@ impl Packed {
         bytes_of(self.bytes.as_slice(), &self.slips[index].body)
     }
 
+    /// Moves the body of a letter out, where it has a list of its own. An empty one is left there. `None` changes nothing.
+    pub fn take_own(&mut self, index: usize) -> Option<Octets>
+        requires { index < length self.old }
+        ensures body { IfSome result (λ own. HasBody self.old index own) }
+        ensures left { IfSome result (λ _. self.new ≡ emptied index self.old) }
+        ensures none { IfNone result (self.new ≡ self.old) }
+    {
+        let none = Octets::new(*self.slips.allocator());
+        self.slips[index].take_own(none)
+    }
+
     /// Adds a copy of one letter. An `Err` changes nothing.
     pub fn copy(&mut self, from: &Packed, index: usize) -> Result<(), AllocError>
         requires { index < length from.now }
@@ -148,29 +165,22 @@ impl Packed {
         Ok(())
     }
 
-    /// Adds a letter with what `put` puts behind other bytes for its body. An `Err` takes all letters out.
+    /// Adds a letter with what `put` puts into an empty list for its body. An `Err` changes nothing.
     pub fn write<F: FnOnce(&mut Octets) -> Result<(), AllocError>>(
         &mut self,
         to: Actor,
         put: F,
     ) -> Result<(), AllocError>
-        requires callable { F.IsAlwaysCallable put }
-        requires behind { PutsBehind F.FnOnce put }
-        ensures { OnOk result (AddsPut F.FnOnce put to self.old self.new) }
+        requires { F.IsAlwaysCallable put }
+        ensures ok { OnOk result (AddsPut F.FnOnce put to self.old self.new) }
+        ensures err { OnErr result (self.new ≡ self.old) }
     {
-        let start = self.bytes.len();
-        match put(&mut self.bytes) {
-            Ok(()) => {
-                let body = body_from(*self.slips.allocator(), &mut self.bytes, start)?;
-                self.slips.push(Slip { to, body })?;
-                Ok(())
-            }
-            Err(error) => {
-                self.slips.clear();
-                self.bytes.clear();
-                Err(error)
-            }
-        }
+        self.draft.clear();
+        put(&mut self.draft)?;
+        let alloc = *self.slips.allocator();
+        let body = store_body(alloc, &mut self.bytes, self.draft.as_slice())?;
+        self.slips.push(Slip { to, body })?;
+        Ok(())
     }
 
     /// Adds a letter with the body of one that is there. An `Err` changes nothing.
@@ -215,7 +225,7 @@ impl Packed {
     pub fn into_letters(self) -> Result<Vec<Letter<Octets>>, AllocError>
         ensures { IfOk result (λ letters. letters.items ≡ self) }
     {
-        let Packed { slips, bytes } = self;
+        let Packed { slips, bytes, .. } = self;
         let alloc = *slips.allocator();
         letters_of(alloc, bytes.as_slice(), slips)
     }
@@ -251,6 +261,18 @@ fn letter_of(alloc: Global, bytes: &[u8], slip: Slip) -> Result<Letter<Octets>, 
 }
 
 impl Slip {
+    /// The body, where it has a list of its own. Another one is left there.
+    fn take_own(&mut self, other: Octets) -> Option<Octets>
+        ensures own { IfSome result (λ own. self.old.body ≡ stored.Own own) }
+        ensures left { IfSome result (λ _. self.new ≡ record { to = self.old.to; body = stored.Own other }) }
+        ensures none { IfNone result (self.new ≡ self.old) }
+    {
+        match &mut self.body {
+            Stored::Own(octets) => Some(replace(octets, other)),
+            Stored::Shared { .. } => None,
+        }
+    }
+
     /// A copy, for a bag that ends with the bytes of this one: from `base` up to `end`.
     fn copy(&self, base: usize, end: usize) -> Result<Slip, AllocError>
         requires low { base ≤ end }

@@ -4,7 +4,7 @@ ghost use Rattle.journal.specs.Pool.{letter_bytes};
 ghost use Rattle.journal.specs.Orderly.{fitting_count};
 
 use crate::journal::Weight;
-use crate::mailbag::Mailbag;
+use crate::outgoing::Coming;
 use crate::wire::{POOL_BYTES, POOL_PACKETS};
 
 /// How many letters, and how many bytes their bodies have.
@@ -15,7 +15,7 @@ pub struct Sums {
 }
 
 /// The bytes of the letters' bodies, stopped at the greatest number.
-pub fn letters_size<B: Weight>(letters: &Mailbag<B>) -> u64
+pub fn letters_size<B: Weight>(letters: &Coming<'_, B>) -> u64
     ensures { result ≡ min (2 ^ 64 - 1) (letter_bytes B.size letters.now) }
 {
     let mut size = 0u64;
@@ -27,7 +27,7 @@ pub fn letters_size<B: Weight>(letters: &Mailbag<B>) -> u64
 
 /// How many letters, which have so many bytes, come before the first one with no room beside the packets that wait, and the sums
 /// of what waits then.
-pub fn count_fitting<B: Weight>(waiting: Sums, letters: &Mailbag<B>, bytes: u64) -> (usize, Sums)
+pub fn count_fitting<B: Weight>(waiting: Sums, letters: &Coming<'_, B>, bytes: u64) -> (usize, Sums)
     requires { bytes ≡ letter_bytes B.size letters.now }
     ensures count { result.0 ≡ fitting_count B.size waiting.letters waiting.bytes letters.now }
     ensures within { result.0 ≤ length letters.now }
@@ -46,7 +46,7 @@ pub fn count_fitting<B: Weight>(waiting: Sums, letters: &Mailbag<B>, bytes: u64)
 }
 
 /// The same, letter by letter.
-fn count_first<B: Weight>(waiting: Sums, letters: &Mailbag<B>) -> (usize, Sums)
+fn count_first<B: Weight>(waiting: Sums, letters: &Coming<'_, B>) -> (usize, Sums)
     ensures count { result.0 ≡ fitting_count B.size waiting.letters waiting.bytes letters.now }
     ensures within { result.0 ≤ length letters.now }
     ensures letters { result.1.letters ≡ waiting.letters + result.0 }

@@ -1,12 +1,12 @@
 //! The packets that wait, in a queue for each actor.
 ghost use Rattle.std.specs.Prelude.{◌≡◌, ℕ, ◌<◌, ◌≤◌, ◌+◌, ◌-◌, ◌^◌, ◌%◌, ◌++◌, [], ◌∷◌, nat_eq, length, take, drop, get_or, filter, slice_get, OnOk, OnErr, Option, if◌then◌else◌};
 ghost use Rattle.journal.specs.Actors.{same_actor};
-ghost use Rattle.journal.specs.Order.{addressed, order_left, HaveNumbersBelow};
+ghost use Rattle.journal.specs.Order.{addressed, without_packet, HaveNumbersBelow};
 ghost use Rattle.journal.specs.Places.{placed, queue_of, left_in, picked, sent_to, letters_to, first_of};
 
 use crate::journal::{Actor, Weight};
-use crate::mailbag::Mailbag;
 use crate::order::Order;
+use crate::outgoing::Coming;
 use crate::place::PacketPlace;
 use std::alloc::{AllocError, Global};
 use std::collections::VecDeque;
@@ -28,24 +28,34 @@ impl Model for Row {
     ghost view = { λ row. map (λ q. q.items) row.queues.items };
 }
 
-/// The packet of a choice, counted round. It leaves the queue, unless it is kept.
+/// Adds a packet to the end of a queue. An `Err` changes nothing.
 #[inline(always)]
-fn pick(queue: &mut VecDeque<PacketPlace>, choice: u64, keep: bool) -> Option<PacketPlace>
-    ensures found { result ≡ picked choice queue.old.items }
-    ensures left { queue.new.items ≡ left_in choice keep queue.old.items }
+fn push(queue: &mut VecDeque<PacketPlace>, place: PacketPlace) -> Result<(), AllocError>
+    ensures ok { OnOk result (queue.new.items ≡ queue.old.items ++ place ∷ []) }
+    ensures err { OnErr result (queue.new.items ≡ queue.old.items) }
+{
+    if queue.len() == queue.capacity() {
+        queue.reserve(1)?;
+    }
+    queue.push_back_reserved(place);
+    Ok(())
+}
+
+/// The packet of a choice, counted round, leaves the queue, if there is one.
+#[inline(always)]
+fn leave(queue: &mut VecDeque<PacketPlace>, choice: u64)
+    ensures { queue.new.items ≡ left_in choice queue.old.items }
 {
     let count = queue.len() as u64;
     if count == 0 {
-        return None;
+        return;
     }
     let index = (choice % count) as usize;
-    if keep {
-        queue.get(index).copied()
-    } else if index == 0 {
+    if index == 0 {
         // Most packets are drawn so, and this takes less than to close a gap.
-        queue.pop_front()
+        let _ = queue.pop_front();
     } else {
-        queue.remove(index)
+        let _ = queue.remove(index);
     }
 }
 
@@ -103,10 +113,7 @@ impl Row {
     {
         let index = number as usize;
         self.reach(index)?;
-        let queue = &mut self.queues[index];
-        queue.reserve(1)?;
-        queue.push_back_reserved(place);
-        Ok(())
+        push(&mut self.queues[index], place)
     }
 
     /// Takes the last packet of a queue away, if it has one.
@@ -119,17 +126,15 @@ impl Row {
         }
     }
 
-    /// The packet of a choice, counted round. It leaves its queue, unless it is kept.
+    /// The packet of a choice, counted round, leaves its queue, if there is one.
     #[inline(always)]
-    fn pick(&mut self, number: u8, choice: u64, keep: bool) -> Option<PacketPlace>
-        ensures found { result ≡ picked choice (get_or self.old number []) }
-        ensures left { (n : ℕ) → get_or self.new n [] ≡ (if nat_eq n number then left_in choice keep (get_or self.old n []) else get_or self.old n []) }
+    fn leave(&mut self, number: u8, choice: u64)
+        ensures { (n : ℕ) → get_or self.new n [] ≡ (if nat_eq n number then left_in choice (get_or self.old n []) else get_or self.old n []) }
     {
         let index = number as usize;
-        if index >= self.queues.len() {
-            return None;
+        if index < self.queues.len() {
+            leave(&mut self.queues[index], choice);
         }
-        pick(&mut self.queues[index], choice, keep)
     }
 
     /// The packet of a choice, counted round. It stays in its queue.
@@ -168,6 +173,7 @@ impl Queues {
     }
 
     /// Adds a packet to the end of its receiver's queue. An `Err` changes none.
+    #[inline(always)]
     fn push(&mut self, place: PacketPlace) -> Result<(), AllocError>
         ensures ok { OnOk result ((a : Actor) → queue_of self.new a ≡ (if same_actor place.to a then queue_of self.old a ++ place ∷ [] else queue_of self.old a)) }
         ensures err { OnErr result ((a : Actor) → queue_of self.new a ≡ queue_of self.old a) }
@@ -191,7 +197,7 @@ impl Queues {
     }
 
     /// For each of so many letters, takes the last packet of its receiver away.
-    fn pop_each<B: Weight>(&mut self, letters: &Mailbag<B>, count: usize)
+    fn pop_each<B: Weight>(&mut self, letters: &Coming<'_, B>, count: usize)
         requires { count ≤ length letters.now }
         ensures queues { (a : Actor) → queue_of self.new a ≡ take (length (queue_of self.old a) - length (letters_to a (take count letters.now))) (queue_of self.old a) }
         ensures order { self.new.order ≡ self.old.order }
@@ -204,15 +210,14 @@ impl Queues {
     /// Adds so many letters to the queues of their receivers, as `append` does.
     fn push_each<B: Weight>(
         &mut self,
-        entry: usize,
         first: u64,
         from: Actor,
-        letters: &Mailbag<B>,
+        letters: &Coming<'_, B>,
         count: usize,
     ) -> Result<(), AllocError>
         requires within { count ≤ length letters.now }
         requires small { first + count < 2 ^ 64 }
-        ensures ok { OnOk result ((a : Actor) → queue_of self.new a ≡ queue_of self.old a ++ sent_to a (placed entry 0 first from (take count letters.now))) }
+        ensures ok { OnOk result ((a : Actor) → queue_of self.new a ≡ queue_of self.old a ++ sent_to a (placed first from (take count letters.now))) }
         ensures err { OnErr result ((a : Actor) → queue_of self.new a ≡ queue_of self.old a) }
         ensures order { self.new.order ≡ self.old.order }
     {
@@ -221,8 +226,6 @@ impl Queues {
                 id: first + letter as u64,
                 from,
                 to: letters.receiver(letter),
-                entry,
-                letter,
             };
             if let Err(error) = self.push(place) {
                 self.pop_each(letters, letter);
@@ -232,24 +235,23 @@ impl Queues {
         Ok(())
     }
 
-    /// Adds so many letters of the post at this entry, numbered from `first` on. An `Err` changes no queue.
+    /// Adds so many letters of a post, numbered from `first` on. An `Err` changes no queue.
     pub fn append<B: Weight>(
         &mut self,
-        entry: usize,
         first: u64,
         from: Actor,
-        letters: &Mailbag<B>,
+        letters: &Coming<'_, B>,
         count: usize,
     ) -> Result<(), AllocError>
         requires within { count ≤ length letters.now }
         requires small { first + count < 2 ^ 64 }
         requires above { HaveNumbersBelow first self.old.order }
-        ensures ok { OnOk result ((a : Actor) → queue_of self.new a ≡ queue_of self.old a ++ sent_to a (placed entry 0 first from (take count letters.now))) }
+        ensures ok { OnOk result ((a : Actor) → queue_of self.new a ≡ queue_of self.old a ++ sent_to a (placed first from (take count letters.now))) }
         ensures err { OnErr result ((a : Actor) → queue_of self.new a ≡ queue_of self.old a) }
         ensures order_ok { OnOk result (self.new.order ≡ self.old.order ++ addressed first (take count letters.now)) }
         ensures order_err { OnErr result (self.new.order ≡ self.old.order) }
     {
-        self.push_each(entry, first, from, letters, count)?;
+        self.push_each(first, from, letters, count)?;
         if let Err(error) = self.order.append(first, letters, count) {
             self.pop_each(letters, count);
             return Err(error);
@@ -257,20 +259,17 @@ impl Queues {
         Ok(())
     }
 
-    /// The packet of a choice, counted round. It leaves the actor's queue, unless it is kept.
-    pub fn pick(&mut self, actor: Actor, choice: u64, keep: bool) -> Option<PacketPlace>
-        ensures found { result ≡ picked choice (queue_of self.old actor) }
-        ensures left { (a : Actor) → queue_of self.new a ≡ (if same_actor actor a then left_in choice keep (queue_of self.old a) else queue_of self.old a) }
-        ensures order { self.new.order ≡ order_left keep result self.old.order }
+    /// The packet of a choice, counted round, leaves the actor's queue. It is that of a number.
+    #[inline(always)]
+    pub fn leave(&mut self, actor: Actor, choice: u64, id: u64)
+        ensures left { (a : Actor) → queue_of self.new a ≡ (if same_actor actor a then left_in choice (queue_of self.old a) else queue_of self.old a) }
+        ensures order { self.new.order ≡ without_packet id self.old.order }
     {
-        let found = match actor {
-            Actor::Controller(number) => self.controllers.pick(number, choice, keep),
-            Actor::Switch(number) => self.switches.pick(number, choice, keep),
-        };
-        if !keep {
-            self.order.remove(found?.id);
+        match actor {
+            Actor::Controller(number) => self.controllers.leave(number, choice),
+            Actor::Switch(number) => self.switches.leave(number, choice),
         }
-        found
+        self.order.remove(id);
     }
 
     /// The packet of a choice, counted round. It stays in the actor's queue.

@@ -1,11 +1,11 @@
 //! The journal beside the queues of what waits: what one turn of an actor adds to it.
-ghost use Rattle.std.specs.Prelude.{◌≡◌, [], ◌∷◌, ◌++◌, length, map, slice_get, OnOk, IfOk, IfErr, OnErr, IfSome, IsSome};
+ghost use Rattle.std.specs.Prelude.{◌≡◌, [], ◌∷◌, ◌++◌, length, map, slice_get, Some, OnOk, IfOk, IfErr, OnErr, IfSome, IsSome};
 ghost use Rattle.journal.specs.Pool.{past, pool, pick};
 ghost use Rattle.journal.specs.Orderly.{IsOrderly};
 ghost use Rattle.journal.specs.Refusals.{MayBeRefused};
 ghost use Rattle.journal.specs.Turns.{entry_of, posting, posted, turn_actor, turn_entries, IsWithinLimits};
 ghost use Rattle.journal.specs.Answers.{RefusedBy};
-ghost use Rattle.journal.specs.Entries.{head_of};
+ghost use Rattle.journal.specs.Entries.{Tile, head_of, whole_entry};
 ghost use Rattle.journal.specs.Mailbags.{HasBody};
 ghost use Rattle.journal.specs.Places.{packet_at, IsFound};
 ghost use Rattle.journal.specs.Ledger.{found_in};
@@ -17,6 +17,7 @@ use crate::entries::Head;
 use crate::journal::{Actor, Journal, Local, Turn, Weight};
 use crate::ledger::Ledger;
 use crate::mailbag::Mailbag;
+use crate::outgoing::Outgoing;
 use crate::place::PacketPlace;
 use std::alloc::{AllocError, Global};
 use std::marker::Model;
@@ -130,6 +131,15 @@ impl<B: Weight> Wire<B> {
         self.ledger.entries.letter(place)
     }
 
+    /// The entries without their letters, the oldest first, and the letters: those of each post behind those of the one
+    /// before. It takes no memory.
+    pub fn into_parts(self) -> (Vec<Head>, Mailbag<B>)
+        ensures whole { map (whole_entry result.1) result.0.items ≡ self }
+        ensures tiled { Tile 0 result.0.items (length result.1) }
+    {
+        self.ledger.entries.into_parts()
+    }
+
     /// Gives the journal.
     pub fn into_journal(self) -> Result<Journal<B>, AllocError>
         ensures { IfOk result (λ journal. journal ≡ self) }
@@ -138,9 +148,9 @@ impl<B: Weight> Wire<B> {
     }
 
     /// Posts an outbox.
-    pub fn post(&mut self, actor: Actor, post: &Mailbag<B>) -> Result<(), Stop>
-        ensures ok { OnOk result (self.new ≡ self.old ++ posting B.size actor post.now (past self.old)) }
-        ensures err { IfErr result (λ stop. (self.new ≡ self.old) × RefusedBy B.size stop post.now (past self.old)) }
+    pub fn post<P: Outgoing<B>>(&mut self, actor: Actor, post: &P) -> Result<(), Stop>
+        ensures ok { OnOk result (self.new ≡ self.old ++ posting B.size actor (P.letters post.now) (past self.old)) }
+        ensures err { IfErr result (λ stop. (self.new ≡ self.old) × RefusedBy B.size stop (P.letters post.now) (past self.old)) }
     {
         self.ledger.post(actor, post, 0)
     }
@@ -155,14 +165,21 @@ impl<B: Weight> Wire<B> {
         Ok(())
     }
 
-    /// Draws the packet of a choice behind all that was posted, if one waits for the actor. An `Err` changes nothing.
+    /// Draws the packet at a place, which is that of a choice, behind all that was posted. An `Err` changes nothing.
     #[inline(always)]
-    pub fn take_draw(&mut self, actor: Actor, choice: u64, keep: bool) -> Result<(), AllocError>
+    pub fn take_draw(
+        &mut self,
+        place: PacketPlace,
+        actor: Actor,
+        choice: u64,
+        keep: bool,
+    ) -> Result<(), AllocError>
+        requires { IsFound self.old (Some place) (pick actor choice (past self.old)) }
         ensures ok { OnOk result (self.new ≡ self.old ++ entry_of (turn.Draw actor choice keep) (past self.old) ∷ []) }
         ensures err { OnErr result (self.new ≡ self.old) }
     {
         self.ledger.reserve()?;
-        self.ledger.draw(actor, choice, keep);
+        self.ledger.draw(place, actor, choice, keep);
         Ok(())
     }
 

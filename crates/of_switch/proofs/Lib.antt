@@ -1,4 +1,3 @@
-pub mod Drafts
 pub mod Leaving
 pub mod Ports
 pub mod Turns

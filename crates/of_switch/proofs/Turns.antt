@@ -1,5 +1,5 @@
 -- What a draft comes to is what the rules say.
-use Rattle.std.proofs.Common.{◌≡◌, ℕ, ◌+◌, ◌-◌, ◌^◌, ◌≤◌, ◌<◌, Bool, true, false, List, [], ◌∷◌, ◌++◌, length, length-append, length-drop, take, refl, sym, ◌∙◌, ap, subst, arith, append_assoc, append-nil, suc, zero}
+use Rattle.std.proofs.Common.{◌≡◌, ℕ, ◌+◌, ◌-◌, Bool, true, false, List, [], ◌∷◌, ◌++◌, length, length-append, length-drop, take, refl, sym, ◌∙◌, ap, subst, arith, append_assoc, append-nil, suc, zero}
 use Rattle.std.proofs.lemmas.Bool.{le-leb, lt-leb}
 use Rattle.std.specs.Prelude.{nat_eq, nat_le, nat_lt, Option, Some, None, if◌then◌else◌}
 use Rattle.of_types.specs.declared.message.Event.{Event}
@@ -14,19 +14,15 @@ use Rattle.of_types.specs.declared.message.Row.{Row}
 use Rattle.of_types.specs.declared.numbers.TheConstants.{TO_CONTROLLER}
 use Rattle.of_types.specs.Lives.{last_life, switch_up}
 use Rattle.journal.specs.declared.journal.Letter.{Letter}
-use Rattle.event_buffer.specs.Buffer.{Buffer, AreNumbered, most_held, is_full, next_event, next_number, without_dirty, without_events_below, cleared_to}
-use Rattle.command_buffer.specs.Results.{Results, no_results, with_result, without_results_below}
-use Rattle.flow_clock.specs.Clocked.{Clocked}
-use Rattle.flow_clock.specs.Holding.{clocked_of}
-use Rattle.role_fence.specs.Fence.{starting_fence}
+use Rattle.event_buffer.specs.Buffer.{Buffer, most_held, is_full, next_event, next_number, without_dirty, without_events_below, cleared_to}
+use Rattle.command_buffer.specs.Results.{Results, with_result, without_results_below}
 use Rattle.of_switch.specs.declared.says.SwitchSays.{SwitchSays}
 use Rattle.of_switch.specs.State.{SwitchState, IsSwitch, SwitchTurn, quiet_switch, posts, then_turn, greetings, life_of}
 use Rattle.of_switch.specs.Events.{event_letters, raised, packet_raised, port_status, with_port, coming, cleared, remembers, tells_ports, next_life, on_event_ack, switch_on_restart}
 use Rattle.of_switch.specs.Commands.{result_of, done_as, counted_command, result_letter, executes, settled}
 use Rattle.of_switch.specs.Forwarding.{targets, sends_to, puts_out, puts_all, packet_in_of, through_row}
-use Rattle.of_switch.proofs.Drafts.{posted-all, whats-length}
 use Rattle.of_switch.proofs.Ports.{down-then}
-use Rattle.of_switch.specs.Drafts.{Draft, IsDraft, KeepsToRoom, all_posted, draft_of, drafted, drafted_event, with_raised, with_packet, with_sent, with_output, with_outputs, untold, with_draft_row, with_ports, forgets, forgetting, changed_to, with_told, life_begun, sent_as}
+use Rattle.of_switch.specs.Drafts.{Draft, IsDraft, draft_of, drafted, drafted_event, with_raised, with_packet, with_sent, with_output, with_outputs, untold, with_draft_row, with_ports, forgets, forgetting, changed_to, with_told, life_begun, sent_as}
 
 -- a draft with nothing new leaves all as it is
 pub starts : (s : SwitchState) → quiet_switch s ≡ drafted s (draft_of s)
@@ -173,29 +169,6 @@ remembers-drafted s b (port ∷ ports) (suc room) d down is e =
 
 -- ---- what a switch takes of a draft
 
--- its events are numbered on from those of the buffer
-numbered-on : (s : SwitchState) (d : Draft) (joining : List Happening) → IsDraft s d → KeepsToRoom d joining → AreNumbered s.buffer.switch s.buffer.life (next_number s.buffer) d.raised
-numbered-on s d joining is kept =
-    let from : d.cleared + (d.held - length d.raised) ≡ next_number s.buffer = omega (arith, is.cleared_is, is.held_is) in
-    subst (λ (n : ℕ). AreNumbered s.buffer.switch s.buffer.life n d.raised) from
-    (subst (λ (l : ℕ). AreNumbered s.buffer.switch l (d.cleared + (d.held - length d.raised)) d.raised) is.life_is
-    (subst (λ (w : ℕ). AreNumbered w d.life (d.cleared + (d.held - length d.raised)) d.raised) is.switch_is kept.numbered))
-
-pub joined-is : (s : SwitchState) (d : Draft) (joining : List Happening) → IsDraft s d → KeepsToRoom d joining → all_posted joining s.buffer ≡ record s.buffer { held = s.buffer.held ++ d.raised }
-joined-is s d joining is kept =
-    ap (λ (ws : List Happening). all_posted ws s.buffer) kept.joins ∙ posted-all d.raised s.buffer (numbered-on s d joining is kept)
-
--- and there is room for them
-pub joins-room : (s : SwitchState) (d : Draft) (joining : List Happening) → IsDraft s d → KeepsToRoom d joining → length s.buffer.held + length joining ≤ most_held
-joins-room s d joining is kept =
-    let counts : length joining ≡ length d.raised = ap (λ (ws : List Happening). length ws) kept.joins ∙ whats-length d.raised in
-    omega (arith, counts, is.held_is, kept.room)
-
-pub joins-countable : (s : SwitchState) (d : Draft) (joining : List Happening) → IsDraft s d → KeepsToRoom d joining → next_number s.buffer + length joining < 2 ^ 64 - 1
-joins-countable s d joining is kept =
-    let counts : length joining ≡ length d.raised = ap (λ (ws : List Happening). length ws) kept.joins ∙ whats-length d.raised in
-    omega (arith, counts, is.held_is, is.cleared_is, kept.room, kept.countable)
-
 -- the switch stays one
 pub drafted-switch : (s : SwitchState) (d : Draft) → IsSwitch s → IsSwitch (drafted s d).state
 drafted-switch s d known =
@@ -257,6 +230,11 @@ forgetting-is ports s d is =
     subst (λ (b : Buffer). IsDraft (record s { buffer = b }) d) (sym (forgets-same ports s.buffer))
     (record { switch_is = is.switch_is; life_is = is.life_is; master_is = is.master_is; cleared_is = is.cleared_is; held_is = is.held_is })
 
+-- nor does it matter which events it holds
+pub forgets-joined : (ports : List ℕ) (b : Buffer) (events : List Event) → forgets ports (record b { held = b.held ++ events }) ≡ record (forgets ports b) { held = (forgets ports b).held ++ events }
+forgets-joined [] b events = refl
+forgets-joined (port ∷ ports) b events = forgets-joined ports (without_dirty b port) events
+
 -- events that leave take no number with them
 cleared-next : (b : Buffer) (through : ℕ) → next_number (without_events_below b through) ≡ next_number b
 cleared-next b through = let rest = length-drop (cleared_to b through - b.cleared) b.held in omega (arith, rest)
@@ -286,18 +264,6 @@ pub restart-is : (s : SwitchState) → IsDraft (next_life s) (life_begun s)
 restart-is s =
     let is = ports-is s (next_life s) s.down (with_raised switch_up (draft_of (next_life s))) (raised-is (next_life s) (draft_of (next_life s)) switch_up (start-is (next_life s))) in
     record { switch_is = is.switch_is; life_is = is.life_is; master_is = is.master_is; cleared_is = is.cleared_is; held_is = is.held_is }
-
--- what gives way in the next life, and the events that are new
-pub renewed : (s s' : SwitchState) (d : Draft) (buffer : Buffer) (results : Results) (table : Clocked) (events : List Event) (ended : List ℕ) →
-    s' ≡ record s { buffer = buffer; results = results; table = table; fence = starting_fence; events = events; ended = ended } →
-    buffer ≡ (next_life s).buffer → results ≡ no_results → table ≡ clocked_of [] → events ≡ s.events ++ d.raised → ended ≡ s.ended ++ s.buffer.cleared ∷ [] →
-    s' ≡ record (next_life s) { events = s.events ++ d.raised }
-renewed s s' d buffer results table events ended is b r w n l = is ∙ rw (b, r, w, n, l) refl
-
--- and those that join the buffer
-pub begun : (b s' : SwitchState) (d : Draft) (buffer : Buffer) (sent : ℕ) → s' ≡ record b { events = b.events ++ d.raised } →
-    buffer ≡ record b.buffer { held = b.buffer.held ++ d.raised } → sent ≡ d.sent → record s' { buffer = buffer; sent = sent } ≡ (drafted b d).state
-begun b s' d buffer sent is joined n = rw (is, joined, n) refl
 
 -- ---- a PACKET_OUT
 

@@ -14,7 +14,7 @@ use Rattle.of_types.specs.declared.numbers.TheConstants.{MASTER, TO_CONTROLLER, 
 use Rattle.of_types.specs.declared.refusal.TheConstants.{BAD_ROLE, STALE_ROLE}
 use Rattle.of_types.specs.Lives.{switch_up}
 use Rattle.journal.specs.declared.journal.Letter.{Letter}
-use Rattle.event_buffer.specs.Buffer.{Buffer, AreNumbered, most_held, with_posted, without_dirty}
+use Rattle.event_buffer.specs.Buffer.{Buffer, Held, counted, most_held, without_dirty}
 use Rattle.command_buffer.specs.declared.buffer.Offer.{Offer}
 use Rattle.command_buffer.specs.declared.buffer.Offer.TheVariants as offer
 use Rattle.role_fence.specs.declared.fence.RoleAnswer.{RoleAnswer}
@@ -38,12 +38,12 @@ pub record Draft : Type 0 where
   pub letters : List (Letter SwitchSays)
 
 -- a draft as it starts: nothing is new
-abbrev pub draft_from : Buffer → Option ℕ → ℕ → Draft
-draft_from b master sent =
-    record { switch = b.switch; life = b.life; master = master; cleared = b.cleared; held = length b.held; raised = []; sent = sent; letters = [] }
+abbrev pub draft_from : Held → Option ℕ → ℕ → Draft
+draft_from h master sent =
+    record { switch = h.switch; life = h.life; master = master; cleared = h.cleared; held = h.count; raised = []; sent = sent; letters = [] }
 
 abbrev pub draft_of : SwitchState → Draft
-draft_of s = draft_from s.buffer s.fence.master s.sent
+draft_of s = draft_from (counted s.buffer) s.fence.master s.sent
 
 -- what a draft makes of a switch
 abbrev pub drafted : SwitchState → Draft → SwitchTurn
@@ -151,23 +151,10 @@ forgets (port ∷ ports) b = forgets ports (without_dirty b port)
 abbrev pub forgetting : List ℕ → SwitchState → SwitchState
 forgetting ports s = record s { buffer = forgets ports s.buffer }
 
--- what happened joins a buffer, in order
-abbrev pub all_posted : List Happening → Buffer → Buffer
-all_posted [] b = b
-all_posted (what ∷ whats) b = all_posted whats (with_posted b what)
-
--- what each of some events tells of
-abbrev pub whats_of : List Event → List Happening
-whats_of [] = []
-whats_of (e ∷ events) = e.what ∷ whats_of events
-
--- a draft that keeps to its room, beside what is to join the buffer
-pub record KeepsToRoom (d : Draft) (joining : List Happening) : Type 0 where
-  pub joins : joining ≡ whats_of d.raised
-  pub enough : length d.raised ≤ d.held
+-- a draft that keeps to its room
+pub record KeepsToRoom (d : Draft) : Type 0 where
   pub room : d.held ≤ most_held
   pub countable : d.cleared < 2 ^ 63
-  pub numbered : AreNumbered d.switch d.life (d.cleared + (d.held - length d.raised)) d.raised
 
 -- a command is carried out
 abbrev pub is_execute : Offer → Bool

@@ -3,14 +3,14 @@ ghost use Rattle.std.specs.Prelude.{◌≡◌, ◌≤◌, ◌<◌, ◌+◌, ◌-
 ghost use Rattle.std.specs.List.{range_with_len};
 ghost use Rattle.of_types.specs.declared.message.OfMessage.TheVariants as plain;
 ghost use Rattle.of_types.specs.declared.message.Spoken.TheVariants as spoken;
-ghost use Rattle.event_buffer.specs.Buffer.{most_held};
+ghost use Rattle.event_buffer.specs.Buffer.{most_held, number_after};
 ghost use Rattle.of_switch.specs.State.{to_controller};
 ghost use Rattle.of_switch.specs.Events.{window, event_letters};
 ghost use Rattle.of_switch.specs.Drafts.{draft_from, with_letters, with_told, with_raised, with_noted, with_first, drafted_event, KeepsToRoom};
 
 use crate::letters::{push_events, push_greetings};
 use crate::says::SwitchSays;
-use event_buffer::{EventBuffer, MOST_HELD};
+use event_buffer::{HeldEvents, MOST_HELD};
 use journal::Letter;
 use of_types::{Event, Happening};
 use std::alloc::{AllocError, Global};
@@ -35,8 +35,6 @@ pub struct Draft {
     held: usize,
     /// The events that the turn raised, by number.
     raised: Vec<Event>,
-    /// What these tell, as the buffer takes it.
-    joining: Vec<Happening>,
     /// How many frames the turn sends out.
     sent: u64,
     /// What the turn says.
@@ -68,39 +66,37 @@ impl Model for Draft {
       raised = a.raised.items;
       sent = a.sent;
       letters = a.letters.items;
-    }) a.joining.items };
+    }) };
 }
 
-/// The parts of a draft. `joining` is what the events tell of, once more.
+/// The parts of a draft.
 #[derive(Drop)]
 pub struct Parts {
     pub events: Vec<Event>,
-    pub joining: Vec<Happening>,
     pub sent: u64,
     pub letters: Vec<Letter<SwitchSays>>,
 }
 
 impl Draft {
-    /// Nothing is new at a buffer whose first events leave, `left` of them. It takes no memory.
+    /// Nothing is new where the first of the held events leave, `left` of them. It takes no memory.
     pub fn new(
         alloc: Global,
-        buffer: &EventBuffer,
+        held: &HeldEvents,
         left: usize,
         master: Option<u8>,
         sent: u64,
     ) -> Draft
-        requires left { left ≤ length buffer.now.held }
-        requires countable { buffer.now.cleared + length buffer.now.held < 2 ^ 63 }
-        ensures { result ≡ record (draft_from buffer.now master sent) { cleared = buffer.now.cleared + left; held = length buffer.now.held - left } }
+        requires left { left ≤ held.now.count }
+        requires countable { number_after held.now < 2 ^ 63 }
+        ensures { result ≡ record (draft_from held.now master sent) { cleared = held.now.cleared + left; held = held.now.count - left } }
     {
         Draft {
-            switch: buffer.switch(),
-            life: buffer.life(),
+            switch: held.switch(),
+            life: held.life(),
             master,
-            cleared: buffer.cleared() + left as u64,
-            held: buffer.held().len() - left,
+            cleared: held.cleared() + left as u64,
+            held: held.count() - left,
             raised: Vec::new(alloc),
-            joining: Vec::new(alloc),
             sent,
             letters: Vec::new(alloc),
         }
@@ -126,9 +122,9 @@ impl Draft {
         requires { self.old.held < most_held }
         ensures { OnOk result (self.new ≡ with_raised what self.old) }
     {
-        let event = self.next_event(what.copy()?);
+        let event = self.next_event(what);
         self.tell_among_first(&event)?;
-        self.join(event, what)
+        self.join(event)
     }
 
     /// Something happened: it is the next event, and isn't told.
@@ -136,8 +132,8 @@ impl Draft {
         requires { self.old.held < most_held }
         ensures { OnOk result (self.new ≡ with_noted what self.old) }
     {
-        let event = self.next_event(what.copy()?);
-        self.join(event, what)
+        let event = self.next_event(what);
+        self.join(event)
     }
 
     /// What happened, as the next event.
@@ -163,14 +159,11 @@ impl Draft {
     }
 
     /// The next event is new.
-    fn join(&mut self, event: Event, what: Happening) -> Result<(), AllocError>
-        requires room { self.old.held < most_held }
-        requires next { event ≡ drafted_event self.old what }
+    fn join(&mut self, event: Event) -> Result<(), AllocError>
+        requires { self.old.held < most_held }
         ensures { OnOk result (self.new ≡ record self.old { held = self.old.held + 1; raised = self.old.raised ++ event ∷ [] }) }
     {
-        self.joining.reserve(1)?;
         self.raised.push(event)?;
-        self.joining.push_reserved(what);
         self.held += 1;
         Ok(())
     }
@@ -226,20 +219,18 @@ impl Draft {
     /// Its parts.
     pub fn into_parts(self) -> Parts
         ensures events { result.events.items ≡ self.raised }
-        ensures kept { KeepsToRoom self result.joining.items }
+        ensures kept { KeepsToRoom self }
         ensures sent { result.sent ≡ self.sent }
         ensures letters { result.letters.items ≡ self.letters }
     {
         let Draft {
             raised,
-            joining,
             sent,
             letters,
             ..
         } = self;
         Parts {
             events: raised,
-            joining,
             sent,
             letters,
         }

@@ -2,9 +2,10 @@
 #![tactic(auto)]
 
 mod draft;
+mod history;
 mod letters;
 mod says;
 mod switch;
 
 pub use says::{SwitchInput, SwitchSays};
-pub use switch::Switch;
+pub use switch::{Switch, SwitchRemains, ToldSwitch};

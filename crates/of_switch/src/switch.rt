@@ -11,10 +11,11 @@ mod events;
 mod forwarding;
 mod messages;
 mod ports;
+mod told;
 
+use crate::history::History;
 use crate::says::{SwitchInput, SwitchSays};
 use command_buffer::CommandBuffer;
-use event_buffer::EventBuffer;
 use flow_clock::TimedRows;
 use flow_index::FlowIndex;
 use journal::{Local, Said};
@@ -22,6 +23,7 @@ use of_types::{Event, Executed, Items, Link, Refusal, Row, Setup, Spoken};
 use role_fence::RoleFence;
 use std::alloc::{AllocError, Global};
 use std::marker::Model;
+pub use told::{SwitchRemains, ToldSwitch};
 
 /// The table of a switch, beside its clock.
 type Table = TimedRows<FlowIndex>;
@@ -38,16 +40,14 @@ pub struct Switch {
     down: Vec<bool>,
     /// How many frames it sent out.
     sent: u64,
-    /// The events of this life that wait to be processed.
-    buffer: EventBuffer,
+    /// The events that it made, and those of this life that wait to be processed.
+    history: History,
     /// How many commands of this life were carried out, and their latest results.
     results: CommandBuffer,
     /// The flow table.
     table: Table,
     /// Which controller may command.
     fence: RoleFence,
-    /// The events of all lives that were made, in order.
-    events: Vec<Event>,
     /// The commands of all lives that were carried out, in order.
     executed: Vec<Executed>,
     /// Of each life that is over, how many events had left the buffer.
@@ -67,11 +67,11 @@ impl Model for Switch {
       links = a.links;
       down = places_from 1 a.down.items;
       sent = a.sent;
-      buffer = a.buffer;
+      buffer = a.history.buffer;
       results = a.results;
       table = a.table;
       fence = a.fence;
-      events = a.events.items;
+      events = a.history.events;
       executed = a.executed.items;
       ended = a.ended.items;
     } };
@@ -82,11 +82,11 @@ impl Model for Switch {
       links = a.links;
       down = places_from 1 a.down.items;
       sent = a.sent;
-      buffer = a.buffer;
+      buffer = a.history.buffer;
       results = a.results;
       table = a.table;
       fence = a.fence;
-      events = a.events.items;
+      events = a.history.events;
       executed = a.executed.items;
       ended = a.ended.items;
     }) };
@@ -104,11 +104,10 @@ impl Switch {
             links: links_at(alloc, number, setup.links.as_slice())?,
             down: all_up(alloc, count_of_ports(setup, number) as usize)?,
             sent: 0,
-            buffer: EventBuffer::new(alloc, number, 0)?,
+            history: History::new(alloc, number),
             results: CommandBuffer::new(alloc)?,
             table: new_table(alloc)?,
             fence: RoleFence::new(),
-            events: Vec::new(alloc),
             executed: Vec::new(alloc),
             ended: Vec::new(alloc),
         })
@@ -125,7 +124,7 @@ impl Switch {
     pub fn events(&self) -> &[Event]
         ensures { result.now ≡ self.now.events }
     {
-        &self.events
+        self.history.events()
     }
 
     /// All commands that it carried out in all its lives, in order.
@@ -133,6 +132,13 @@ impl Switch {
         ensures { result.now ≡ self.now.executed }
     {
         &self.executed
+    }
+
+    /// How many rows its table has.
+    pub fn count_rows(&self) -> usize
+        ensures { result ≡ length (rows_of self.now) }
+    {
+        self.table.count_rows()
     }
 
     /// Copies of the rows of its table, in the order of adding.
@@ -146,7 +152,7 @@ impl Switch {
     pub fn held(&self) -> u64
         ensures { result ≡ length self.now.buffer.held }
     {
-        self.buffer.held().len() as u64
+        self.history.held().len() as u64
     }
 
     /// Its fence: the master, and the generation that was accepted last.
@@ -167,7 +173,7 @@ impl Switch {
     pub fn life(&self) -> u32
         ensures { result ≡ life_of self.now }
     {
-        self.buffer.life()
+        self.history.counts().life()
     }
 
     /// One turn: the rule of its input. Where memory is wanted, nothing has changed. An acknowledgement that brings no
@@ -215,7 +221,7 @@ impl Switch {
     fn number(&self) -> u8
         ensures { result ≡ own_number_of self.now }
     {
-        self.buffer.switch()
+        self.history.counts().switch()
     }
 }
 

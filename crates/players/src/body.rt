@@ -1,5 +1,5 @@
 //! How bodies stand for messages.
-ghost use Rattle.std.specs.Prelude.{◌≡◌, ◌<◌, ◌++◌, [], ◌∷◌, length, slice_get, IfOk, IfSome, OnOk};
+ghost use Rattle.std.specs.Prelude.{◌≡◌, ◌<◌, ◌++◌, [], ◌∷◌, length, slice_get, IfOk, IfSome, OnOk, OnErr};
 ghost use Rattle.run_spec.specs.declared.messages.Message.TheVariants as message;
 ghost use Rattle.run_spec.specs.States.{Sealing, IsFaithful};
 
@@ -14,27 +14,30 @@ pub trait Body: Weight {
     /// How such bodies stand for messages.
     ghost sealing: { Sealing Self };
 
-    /// Adds a letter of what a controller and a switch say to each other.
+    /// Adds a letter of what a controller and a switch say to each other. An `Err` changes nothing.
     fn seal_spoken(
         bag: &mut Mailbag<Self>,
         to: Actor,
         xid: u32,
         said: &Spoken,
     ) -> Result<(), AllocError>
-        ensures { OnOk result (bag.new ≡ bag.old ++ record { to = to; body = sealing.sealed (message.Of xid said.now) } ∷ []) };
+        ensures ok { OnOk result (bag.new ≡ bag.old ++ record { to = to; body = sealing.sealed (message.Of xid said.now) } ∷ []) }
+        ensures err { OnErr result (bag.new ≡ bag.old) };
 
-    /// Adds a letter of what two controllers say to each other.
+    /// Adds a letter of what two controllers say to each other. An `Err` changes nothing.
     fn seal_vr(bag: &mut Mailbag<Self>, to: Actor, said: &VrMessage) -> Result<(), AllocError>
-        ensures { OnOk result (bag.new ≡ bag.old ++ record { to = to; body = sealing.sealed (message.Vr said.now) } ∷ []) };
+        ensures ok { OnOk result (bag.new ≡ bag.old ++ record { to = to; body = sealing.sealed (message.Vr said.now) } ∷ []) }
+        ensures err { OnErr result (bag.new ≡ bag.old) };
 
-    /// Adds a letter with a frame for a link.
+    /// Adds a letter with a frame for a link. An `Err` changes nothing.
     fn seal_frame(
         bag: &mut Mailbag<Self>,
         to: Actor,
         port: u32,
         frame: &Octets,
     ) -> Result<(), AllocError>
-        ensures { OnOk result (bag.new ≡ bag.old ++ record { to = to; body = sealing.sealed (message.Frame port frame.now) } ∷ []) };
+        ensures ok { OnOk result (bag.new ≡ bag.old ++ record { to = to; body = sealing.sealed (message.Frame port frame.now) } ∷ []) }
+        ensures err { OnErr result (bag.new ≡ bag.old) };
 
     /// What a letter says on a way.
     fn unseal(
@@ -53,9 +56,10 @@ pub trait Body: Weight {
     ghost weighed: { Self.Weight.size ≡ sealing.size };
 }
 
-/// Adds a letter with a message.
+/// Adds a letter with a message. An `Err` changes nothing.
 pub fn seal<B: Body>(bag: &mut Mailbag<B>, to: Actor, message: &Message) -> Result<(), AllocError>
-    ensures { OnOk result (bag.new ≡ bag.old ++ record { to = to; body = B.sealing.sealed message.now } ∷ []) }
+    ensures ok { OnOk result (bag.new ≡ bag.old ++ record { to = to; body = B.sealing.sealed message.now } ∷ []) }
+    ensures err { OnErr result (bag.new ≡ bag.old) }
 {
     match message {
         Message::Of { xid, message } => B::seal_spoken(bag, to, *xid, message),

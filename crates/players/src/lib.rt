@@ -16,4 +16,5 @@ pub use bytes::Bytes;
 pub use fitting::spoken_fits;
 pub use hearing::heard;
 pub use player::Player;
+pub use sealing::seal_mails;
 pub use turns::{TakesTurns, sealed_turn, typed_turn};

@@ -1,5 +1,6 @@
 //! What an actor is to those who carry its letters.
-ghost use Rattle.std.specs.Prelude.{◌≡◌, ◌++◌, [], List, OnOk};
+ghost use Rattle.std.specs.Prelude.{◌≡◌, ◌++◌, [], List, OnOk, OnErr};
+ghost use Rattle.list_facts.specs.Lists.{IsPrefix};
 ghost use Rattle.journal.specs.declared.journal.Actor.{Actor};
 ghost use Rattle.journal.specs.declared.journal.Letter.{Letter};
 ghost use Rattle.journal.specs.declared.journal.Local.{Local};
@@ -50,9 +51,10 @@ pub trait Player {
     fn fits(post: &Self::Post)
         ensures { AreTyped said (letters post.now) };
 
-    /// Adds what it posts, sealed letter by letter.
+    /// Adds what it posts, sealed letter by letter. An `Err` may leave some of it behind what was there.
     fn seal<B: Body>(post: &Self::Post, bag: &mut Mailbag<B>) -> Result<(), AllocError>
-        ensures { OnOk result (bag.new ≡ bag.old ++ sealed_letters said B.sealing (letters post.now)) };
+        ensures ok { OnOk result (bag.new ≡ bag.old ++ sealed_letters said B.sealing (letters post.now)) }
+        ensures err { OnErr result (IsPrefix bag.old bag.new) };
 }
 
 /// A message that no such sender sends to a switch.

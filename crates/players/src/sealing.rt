@@ -1,5 +1,6 @@
 //! What an actor posts, sealed.
-ghost use Rattle.std.specs.Prelude.{◌≡◌, ◌++◌, ◌∷◌, [], map, slice_get, IfOk, IfSome, OnOk};
+ghost use Rattle.std.specs.Prelude.{◌≡◌, ◌++◌, ◌∷◌, [], map, slice_get, IfOk, IfSome, OnOk, OnErr};
+ghost use Rattle.list_facts.specs.Lists.{IsPrefix};
 ghost use Rattle.journal.specs.declared.journal.Actor.TheVariants as actor;
 ghost use Rattle.vr_log.specs.Letters as vr;
 ghost use Rattle.vr_log.specs.Members.{others_below};
@@ -86,7 +87,8 @@ pub fn mails_fit(mails: &[Mail])
 /// Adds a letter of a switch.
 #[inline(always)]
 fn seal_letter<B: Body>(bag: &mut Mailbag<B>, letter: &Letter<SwitchSays>) -> Result<(), AllocError>
-    ensures { OnOk result (bag.new ≡ bag.old ++ sealed_letters switch_message B.sealing (letter.now ∷ [])) }
+    ensures ok { OnOk result (bag.new ≡ bag.old ++ sealed_letters switch_message B.sealing (letter.now ∷ [])) }
+    ensures err { OnErr result (bag.new ≡ bag.old) }
 {
     match &letter.body {
         SwitchSays::Of { xid, message } => B::seal_spoken(bag, letter.to, *xid, message),
@@ -99,7 +101,8 @@ pub fn seal_letters<B: Body>(
     bag: &mut Mailbag<B>,
     letters: &[Letter<SwitchSays>],
 ) -> Result<(), AllocError>
-    ensures { OnOk result (bag.new ≡ bag.old ++ sealed_letters switch_message B.sealing letters.now) }
+    ensures ok { OnOk result (bag.new ≡ bag.old ++ sealed_letters switch_message B.sealing letters.now) }
+    ensures err { OnErr result (IsPrefix bag.old bag.new) }
 {
     for letter in letters {
         seal_letter(bag, letter)?;
@@ -116,7 +119,8 @@ fn seal_told<B: Body>(
     message: &VrMessage,
 ) -> Result<(), AllocError>
     requires { IfSome (slice_get bag.old first) (λ letter. letter.body ≡ B.sealing.sealed (messages.Vr message.now)) }
-    ensures { OnOk result (bag.new ≡ bag.old ++ record { to = to; body = B.sealing.sealed (messages.Vr message.now) } ∷ []) }
+    ensures ok { OnOk result (bag.new ≡ bag.old ++ record { to = to; body = B.sealing.sealed (messages.Vr message.now) } ∷ []) }
+    ensures err { OnErr result (bag.new ≡ bag.old) }
 {
     if first < bag.len() {
         bag.repeat(to, first)
@@ -132,7 +136,8 @@ fn seal_each<B: Body>(
     controllers: u8,
     message: &VrMessage,
 ) -> Result<(), AllocError>
-    ensures { OnOk result (bag.new ≡ bag.old ++ copies (B.sealing.sealed (messages.Vr message.now)) (others_below me controllers)) }
+    ensures ok { OnOk result (bag.new ≡ bag.old ++ copies (B.sealing.sealed (messages.Vr message.now)) (others_below me controllers)) }
+    ensures err { OnErr result (IsPrefix bag.old bag.new) }
 {
     let first = bag.len();
     for to in 0..controllers {
@@ -146,7 +151,8 @@ fn seal_each<B: Body>(
 /// Adds the letters of a mail to members.
 #[inline(always)]
 fn seal_member_mail<B: Body>(bag: &mut Mailbag<B>, mail: &MemberMail) -> Result<(), AllocError>
-    ensures { OnOk result (bag.new ≡ bag.old ++ sealed_letters controller_message B.sealing (to_members (vr.mail_letters mail.now))) }
+    ensures ok { OnOk result (bag.new ≡ bag.old ++ sealed_letters controller_message B.sealing (to_members (vr.mail_letters mail.now))) }
+    ensures err { OnErr result (IsPrefix bag.old bag.new) }
 {
     match mail.to {
         Receivers::One(to) => B::seal_vr(bag, Actor::Controller(to), &mail.message),
@@ -156,7 +162,8 @@ fn seal_member_mail<B: Body>(bag: &mut Mailbag<B>, mail: &MemberMail) -> Result<
 
 /// Adds the letters of a member.
 fn seal_members<B: Body>(bag: &mut Mailbag<B>, mails: &[MemberMail]) -> Result<(), AllocError>
-    ensures { OnOk result (bag.new ≡ bag.old ++ sealed_letters controller_message B.sealing (to_members (vr.letters_in mails.now))) }
+    ensures ok { OnOk result (bag.new ≡ bag.old ++ sealed_letters controller_message B.sealing (to_members (vr.letters_in mails.now))) }
+    ensures err { OnErr result (IsPrefix bag.old bag.new) }
 {
     for mail in mails {
         seal_member_mail(bag, mail)?;
@@ -167,7 +174,8 @@ fn seal_members<B: Body>(bag: &mut Mailbag<B>, mails: &[MemberMail]) -> Result<(
 /// Adds the letters of a mail.
 #[inline(always)]
 fn seal_mail<B: Body>(bag: &mut Mailbag<B>, mail: &Mail) -> Result<(), AllocError>
-    ensures { OnOk result (bag.new ≡ bag.old ++ sealed_letters controller_message B.sealing (letters_mailed mail.now)) }
+    ensures ok { OnOk result (bag.new ≡ bag.old ++ sealed_letters controller_message B.sealing (letters_mailed mail.now)) }
+    ensures err { OnErr result (IsPrefix bag.old bag.new) }
 {
     match mail {
         Mail::Switch {
@@ -181,7 +189,8 @@ fn seal_mail<B: Body>(bag: &mut Mailbag<B>, mail: &Mail) -> Result<(), AllocErro
 
 /// Adds the letters of a controller's mails: what several controllers are told is written once.
 pub fn seal_mails<B: Body>(bag: &mut Mailbag<B>, mails: &[Mail]) -> Result<(), AllocError>
-    ensures { OnOk result (bag.new ≡ bag.old ++ sealed_letters controller_message B.sealing (mailed mails.now)) }
+    ensures ok { OnOk result (bag.new ≡ bag.old ++ sealed_letters controller_message B.sealing (mailed mails.now)) }
+    ensures err { OnErr result (IsPrefix bag.old bag.new) }
 {
     for mail in mails {
         seal_mail(bag, mail)?;

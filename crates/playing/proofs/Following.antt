@@ -36,6 +36,14 @@ use Rattle.playing.proofs.Stopping.{same_self, stuck_full}
 use Rattle.playing.specs.Played.{IsHaltedIn, Lastingly, RunStops}
 use Rattle.playing.specs.Played as halted
 
+-- the step behind those that were taken
+pub stands_behind : {X : Type 0} (taken : List X) (x : X) (rest all : List X) → taken ++ x ∷ rest ≡ all → slice_get all (length taken) ≡ Some x
+stands_behind {X = X} taken x rest all is = subst (λ l. slice_get l (length taken) ≡ Some x) is (at_end taken)
+  where
+    at_end : (front : List X) → slice_get (front ++ x ∷ rest) (length front) ≡ Some x
+    at_end [] = refl
+    at_end (y ∷ front) = at_end front
+
 -- the entry of the next step is that of a step
 step_of : {B : Type 0} (steps : List Turn) (step : Turn) (before : List (JournalEntry B)) → slice_get steps (inputs before) ≡ Some step → IsStepOf steps (entry_of step before) before
 step_of steps (turn.Draw a choice keep) before next = by_found (pick a choice before) refl

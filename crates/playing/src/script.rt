@@ -14,6 +14,7 @@ ghost use Rattle.playing.specs.Played.{HasFollowed, HasPlayedTo, RunStops};
 use app_core::App;
 use closing::ClosingOutcome;
 use journal::{Stable, Stop, Turn};
+use of_types::Items;
 use players::Body;
 use std::alloc::Global;
 use world::World;
@@ -24,19 +25,19 @@ pub fn play<B: Body, A: App, W: Stable>(
     alloc: Global,
     world: &mut World<B, A>,
     stables: &mut [W],
-    steps: &[Turn],
+    steps: Items<Turn>,
 ) -> Result<(ClosingOutcome, usize), Stop>
     requires holds { (kinds : List ℕ) × Holds A.law B.sealing world.old kinds }
     requires pairs { PairsStand W.saving stables.old world.old.controllers }
     requires rests { world.old.owed ≡ None }
     requires fresh { world.old.journal ≡ [] }
-    requires named { AllByRecursion (λ t. IsActor world.old.setup (turn_actor t)) steps.now }
-    requires views { AllByRecursion (λ t. StepSuspectsUpTo most_view_of_a_script t) steps.now }
+    requires named { AllByRecursion (λ t. IsActor world.old.setup (turn_actor t)) steps }
+    requires views { AllByRecursion (λ t. StepSuspectsUpTo most_view_of_a_script t) steps }
     ensures keeps { Keeps A.law W.saving B.sealing world.old stables.old world.new stables.new }
     ensures rests { OnOk result (world.new.owed ≡ None) }
-    ensures played { ForEachScene A.law B.sealing world.old (λ scene. IfOk result (HasPlayedTo scene steps.now world.new)) }
+    ensures played { ForEachScene A.law B.sealing world.old (λ scene. IfOk result (HasPlayedTo scene steps world.new)) }
     ensures up { IfOk result (λ played. HasMajority played.0 world.old world.new) }
-    ensures stops { ForEachScene A.law B.sealing world.old (λ scene. IfErr result (RunStops scene steps.now world.new)) }
+    ensures stops { ForEachScene A.law B.sealing world.old (λ scene. IfErr result (RunStops scene steps world.new)) }
 {
     do_steps(world, stables, steps)?;
     let script = world.len();
@@ -48,24 +49,24 @@ pub fn play<B: Body, A: App, W: Stable>(
 fn do_steps<B: Body, A: App, W: Stable>(
     world: &mut World<B, A>,
     stables: &mut [W],
-    steps: &[Turn],
+    steps: Items<Turn>,
 ) -> Result<(), Stop>
     requires holds { (kinds : List ℕ) × Holds A.law B.sealing world.old kinds }
     requires pairs { PairsStand W.saving stables.old world.old.controllers }
     requires rests { world.old.owed ≡ None }
     requires fresh { world.old.journal ≡ [] }
-    requires named { AllByRecursion (λ t. IsActor world.old.setup (turn_actor t)) steps.now }
-    requires views { AllByRecursion (λ t. StepSuspectsUpTo most_view_of_a_script t) steps.now }
+    requires named { AllByRecursion (λ t. IsActor world.old.setup (turn_actor t)) steps }
+    requires views { AllByRecursion (λ t. StepSuspectsUpTo most_view_of_a_script t) steps }
     ensures keeps { Keeps A.law W.saving B.sealing world.old stables.old world.new stables.new }
     ensures rests { OnOk result (world.new.owed ≡ None) }
     ensures views { OnOk result (IsSuspectedUpTo most_view_of_a_script (past world.new.journal)) }
     ensures follows { ForEachScene A.law B.sealing world.old (λ scene.
-        OnOk result (HasFollowed In_order scene steps.now world.new)) }
+        OnOk result (HasFollowed In_order scene steps world.new)) }
     ensures stops { ForEachScene A.law B.sealing world.old (λ scene.
-        IfErr result (RunStops scene steps.now world.new)) }
+        IfErr result (RunStops scene steps world.new)) }
 {
-    for step in steps {
-        world.apply(stables, step)?;
+    for step in steps.into_vec() {
+        world.take(stables, step)?;
     }
     Ok(())
 }

@@ -2,7 +2,7 @@
 #![tactic(auto)]
 
 use app_core::Part;
-use app_upgrade::{Slot, all_versions};
+use app_upgrade::Slot;
 use command_line::{NO_MEMORY, words_of};
 use firewall_app::Firewall;
 use journal::{FreeGate, Sink, Source, StdSink, StdSource};
@@ -27,7 +27,7 @@ fn serve<S: Source, K: Sink, R: Threads + Wait + Sync>(
     'making: for number in 0..(CONTROLLERS * LIVES) as u8 {
         let mut parts: Vec<Box<dyn Part + Send>> = Vec::with_capacity(alloc, 2)?;
         parts.push(Box::new(alloc, Firewall::new(alloc))?)?;
-        parts.push(Box::new(alloc, Slot::new(all_versions(alloc)?))?)?;
+        parts.push(Box::new(alloc, Slot::unstarted(alloc))?)?;
         push_life(&mut chains, number, parts)?;
     }
     Ok(ravana(

@@ -7,7 +7,9 @@ pub mod ListsTaken
 pub mod LogAgain
 pub mod MessagesAgain
 pub mod MessagesTaken
+pub mod Outlines
 pub mod Outputs
+pub mod Passing
 pub mod Pieces
 pub mod Readers
 pub mod RecordAgain
@@ -17,6 +19,7 @@ pub mod SetupAgain
 pub mod SetupTaken
 pub mod SetupTests
 pub mod Writable
+pub mod HeadLines
 pub mod Written
 pub mod Steps
 pub mod Takers

@@ -95,7 +95,7 @@ first_there test text rest is there =
     position_or_len_is test (text ++ rest) (length text) 10 (omega (arith, length-append text rest))
     (λ k less. rw (get_or_append_left text rest 10 k less) (is k less)) (λ less. rw (get-seam text rest 10) there)
 
-length_is : (n m : ℕ) → n ≤ m → unwrap_or (cond (nat_lt n m) (Some n) None) m ≡ n
+pub length_is : (n m : ℕ) → n ≤ m → unwrap_or (cond (nat_lt n m) (Some n) None) m ≡ n
 length_is n m le =
     elim (cases_lt n m) [
       | inl lt ↦ rw (lt-ltb n m lt) refl

@@ -2,6 +2,7 @@ pub mod Canonical
 pub mod Fits
 pub mod Lines
 pub mod OneLine
+pub mod Outline
 pub mod Parts
 pub mod Reading
 pub mod Records

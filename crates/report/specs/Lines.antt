@@ -2,6 +2,7 @@
 -- many bytes are left from the first line on that does not fit.
 use Rattle.std.specs.Prelude.{◌≡◌, ℕ, zero, suc, Bool, List, [], ◌∷◌, ◌++◌, length, Option, Some, None, Result, Ok, Err, if◌then◌else◌}
 use Rattle.of_bytes.specs.Reading.{◌>>=◌}
+use denote.Ref.{Bor}
 use Rattle.report.specs.declared.fault.Misfit.{Misfit}
 use Rattle.report.specs.declared.fault.Misfit.TheVariants as misfit
 use Rattle.report.specs.declared.fault.Broken.{Broken}
@@ -16,6 +17,16 @@ LineStopsAt broken.OutOfMemory read = Unit {0}
 abbrev pub GivesLines : {X Y : Type 0} → (X → Y) → Result X Broken → Result Y ℕ → Type 0
 GivesLines view (Ok x) read = read ≡ Ok (view x)
 GivesLines view (Err e) read = LineStopsAt e read
+
+-- the same of a reader that answers only what comes behind
+abbrev pub PassesLines : {A : Type 0} → Result (Bor (List ℕ)) Broken → Result (A × List ℕ) ℕ → Type 0
+PassesLines {A = A} (Ok rest) read = (x : A) × (read ≡ Ok (x, rest.now))
+PassesLines (Err e) read = LineStopsAt e read
+
+-- the same of a reader that keeps only this of the value
+abbrev pub KeepsLines : {A B : Type 0} → (A → B) → Result (B × Bor (List ℕ)) Broken → Result (A × List ℕ) ℕ → Type 0
+KeepsLines {A = A} of (Ok kept) read = (x : A) × (read ≡ Ok (x, kept.1.now)) × (kept.0 ≡ of x)
+KeepsLines of (Err e) read = LineStopsAt e read
 
 -- what a reader of one line answered, as a reader of lines from these bytes on answers it
 abbrev pub IsOnLine : {X : Type 0} → List ℕ → Result X Misfit → Result X Broken → Type 0

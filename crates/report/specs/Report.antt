@@ -117,9 +117,11 @@ input_words (local.Suspect view) = codes "suspect" ∷ number_text view ∷ []
 input_words local.Crash = codes "crash" ∷ []
 input_words local.Restart = codes "restart" ∷ []
 
+abbrev pub post_line : Actor → ℕ → ℕ → ℕ → List ℕ
+post_line a first count lost = line (codes "post") (actor_word a ∷ number_text first ∷ number_text count ∷ number_text lost ∷ [])
+
 abbrev pub entry_lines : JournalEntry (List ℕ) → List ℕ
-entry_lines (entry.Post a first letters lost) =
-    line (codes "post") (actor_word a ∷ number_text first ∷ number_text (length letters) ∷ number_text lost ∷ []) ++ lines_of letter_line letters
+entry_lines (entry.Post a first letters lost) = post_line a first (length letters) lost ++ lines_of letter_line letters
 entry_lines (entry.Draw a id keep) = line (codes "draw") (actor_word a ∷ number_text id ∷ flag keep ∷ [])
 entry_lines (entry.Lose a id) = line (codes "lose") (actor_word a ∷ number_text id ∷ [])
 entry_lines (entry.Local a input) = line (codes "local") (actor_word a ∷ input_words input)

@@ -2,6 +2,7 @@
 -- line. What is read is a value beside the bytes that come behind it, and None where none is there.
 use Rattle.std.specs.Prelude.{◌≡◌, ℕ, ◌+◌, ◌-◌, ◌*◌, Bool, true, false, ◌==◌, ◌&&◌, ◌||◌, nat_eq, nat_le, List, [], ◌∷◌, length, take, drop, position, unwrap_or, is_some, Option, Some, None, codes, Result, Ok, Err, if◌then◌else◌}
 use Rattle.std.specs.List.{starts_with}
+use denote.Ref.{Bor}
 use Rattle.numerals.specs.Numerals.{numeral_within}
 use Rattle.journal.specs.declared.journal.Actor.{Actor}
 use Rattle.journal.specs.declared.journal.Actor.TheVariants.{Controller, Switch}
@@ -19,6 +20,12 @@ abbrev pub GivesText : {X Y : Type 0} → (X → Y) → Result X Misfit → Opti
 GivesText view (Ok x) read = read ≡ Some (view x)
 GivesText view (Err misfit.Text) read = read ≡ None
 GivesText view (Err misfit.OutOfMemory) read = Unit {0}
+
+-- the same of a reader that answers only what comes behind
+abbrev pub PassesText : {A : Type 0} → Result (Bor (List ℕ)) Misfit → Option (A × List ℕ) → Type 0
+PassesText {A = A} (Ok rest) read = (x : A) × (read ≡ Some (x, rest.now))
+PassesText (Err misfit.Text) read = read ≡ None
+PassesText (Err misfit.OutOfMemory) read = Unit {0}
 
 -- what comes behind a text
 unfoldable pub after_at : List ℕ → List ℕ → Option (List ℕ)
@@ -170,3 +177,10 @@ hex_at bytes = do
   word ← word_at bytes
   told ← hex_bytes word.0
   Some (told, word.1)
+
+-- the same as the last word of a line
+unfoldable pub last_hex_at : List ℕ → Option (List ℕ × List ℕ)
+last_hex_at bytes = do
+  told ← hex_at bytes
+  rest ← end_at told.1
+  Some (told.0, rest)

@@ -1,6 +1,8 @@
 //! What the types of a record say of its numbers and bytes. These functions do nothing when they run.
 ghost use Rattle.std.specs.List.{AllByRecursion};
-ghost use Rattle.std.specs.Prelude.{◌<◌, ◌^◌, IfSome};
+ghost use Rattle.std.specs.Prelude.{◌<◌, ◌^◌, ℕ, List, map, IfSome};
+ghost use Rattle.journal.specs.declared.journal.Letter.{Letter};
+ghost use Rattle.journal.specs.Entries.{whole_entry};
 ghost use Rattle.of_match.specs.Spelling.{Fits};
 ghost use Rattle.of_messages.specs.Fits.{FitPorts};
 ghost use Rattle.of_ravana.specs.Canonical.{happening_message, order_message};
@@ -8,7 +10,7 @@ ghost use Rattle.report.specs.Fits.{FitsEntry, FitsOfMessage, FitsEvent, FitsLog
 ghost use Rattle.report.specs.Records.{AreOctets, FitsRule, FitsActor, FitsLetter, FitsInput};
 
 use crate::record::{Record, RowRecord, SwitchRecord};
-use journal::{Actor, JournalEntry, Letter, Local};
+use journal::{Actor, Head, JournalEntry, Letter, Local, Mailbag};
 use of_bytes::{u8_fits, u16_fits, u32_fits, u64_fits};
 use of_messages::{
     flow_mod_fits, flow_removed_fits, packet_in_fits, packet_out_fits, port_status_fits,
@@ -229,4 +231,50 @@ pub fn record_fits(told: &Record)
     each_fits(told.switches.as_slice());
     u64_fits(told.script);
     u64_fits(told.closing);
+}
+
+fn letters_fit(letters: &Mailbag<Octets>)
+    ensures { AllByRecursion FitsLetter letters.now }
+{
+    for index in 0..letters.len() {
+        actor_fits(letters.receiver(index));
+        bytes_fit(letters.bytes(index));
+    }
+}
+
+fn head_fits(head: &Head)
+    ensures { (letters : List (Letter (List ℕ))) → AllByRecursion FitsLetter letters → FitsEntry (whole_entry letters head.now) }
+{
+    match head {
+        Head::Post {
+            actor,
+            first,
+            count,
+            lost,
+        } => {
+            actor_fits(*actor);
+            count_fits(*first);
+            count_fits(*count);
+            u64_fits(*lost);
+        }
+        Head::Draw { actor, id, .. } | Head::Lose { actor, id } => {
+            actor_fits(*actor);
+            u64_fits(*id);
+        }
+        Head::Local { actor, input } => {
+            actor_fits(*actor);
+            input_fits(input);
+        }
+        Head::Idle { actor } | Head::Refused { actor } => actor_fits(*actor),
+    }
+}
+
+/// So it is with the entries of a journal that are kept apart from their letters.
+pub fn journal_fits(heads: &[Head], letters: &Mailbag<Octets>)
+    ensures { AllByRecursion FitsEntry (map (whole_entry letters.now) heads.now) }
+{
+    letters_fit(letters);
+    for head in heads {
+        head_fits(head);
+    }
 }

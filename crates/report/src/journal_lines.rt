@@ -7,6 +7,7 @@ ghost use Rattle.report.specs.Spelled.{GivesText};
 
 use crate::counted::{CountedLine, read_each};
 use crate::fault::{Broken, Misfit, on_line};
+use crate::reading::FromJournal;
 use crate::spelled::{actor, after, ended, flag, hex, known, number32, number64};
 use journal::{Actor, Journal, JournalEntry, Letter, Letters, Local};
 use of_types::{Items, Octets};
@@ -30,15 +31,15 @@ impl CountedLine for Letter<Octets> {
 
 /// The line of a post: who posted, the number of its first letter, how many letters follow, and how many were lost.
 #[derive(Drop)]
-struct PostLine {
+pub struct PostLine {
     actor: Actor,
     first: u64,
-    count: u64,
+    pub count: u64,
     lost: u64,
 }
 
 #[tactic(auto, unfolding(crate::specs::OneLine::post_line_at))]
-fn post_line(bytes: &[u8]) -> Result<(PostLine, &[u8]), Misfit>
+pub fn post_line(bytes: &[u8]) -> Result<(PostLine, &[u8]), Misfit>
     ensures { GivesText (λ x. (x.0, x.1.now)) result (post_line_at bytes.now) }
 {
     let rest = after(b"post", bytes)?;
@@ -192,7 +193,7 @@ fn local(alloc: Global, bytes: &[u8]) -> Result<(JournalEntry<Octets>, &[u8]), M
 
 /// An entry of one line.
 #[tactic(auto, unfolding(crate::specs::OneLine::short_entry_at))]
-fn short_entry(alloc: Global, bytes: &[u8]) -> Result<(JournalEntry<Octets>, &[u8]), Misfit>
+pub fn short_entry(alloc: Global, bytes: &[u8]) -> Result<(JournalEntry<Octets>, &[u8]), Misfit>
     ensures { GivesText (λ x. (x.0, x.1.now)) result (short_entry_at bytes.now) }
 {
     if bytes.starts_with(b"draw") {
@@ -219,7 +220,7 @@ fn entry(alloc: Global, bytes: &[u8]) -> Result<(JournalEntry<Octets>, &[u8]), B
 
 /// The entries up to the line of the log. Each takes a byte at least.
 #[tactic(auto, unfolding(crate::specs::Reading::journal_at, crate::specs::Lines::while_at))]
-pub fn journal(alloc: Global, bytes: &[u8]) -> Result<(Journal<Octets>, &[u8]), Broken>
+fn journal(alloc: Global, bytes: &[u8]) -> Result<(Journal<Octets>, &[u8]), Broken>
     ensures { GivesLines (λ x. (x.0, x.1.now)) result (journal_at bytes.now) }
 {
     let mut entries = Items::new(alloc);
@@ -236,4 +237,12 @@ pub fn journal(alloc: Global, bytes: &[u8]) -> Result<(Journal<Octets>, &[u8]), 
         return Err(Broken::Line { left: rest.len() });
     }
     Ok((entries, rest))
+}
+
+impl FromJournal for Journal<Octets> {
+    ghost of = { λ journal. journal };
+
+    fn read(alloc: Global, bytes: &[u8]) -> Result<(Journal<Octets>, &[u8]), Broken> {
+        journal(alloc, bytes)
+    }
 }

@@ -5,7 +5,7 @@ ghost use Rattle.report.specs.Report as report;
 ghost use Rattle.report.specs.Report.{word, newline, hex};
 
 use crate::sheet::Sheet;
-use crate::words::{write_hex_of, write_newline};
+use crate::words::{write_hex, write_hex_of, write_newline};
 use itoa::{Buffer, Integer};
 use journal::Actor;
 use of_bytes::Front;
@@ -190,6 +190,16 @@ impl Line {
     {
         self.write(out)?;
         write_hex_of(alloc, out, bytes)?;
+        write_newline(out)
+    }
+
+    /// Writes the line, with bytes as its last word, which stay where they are.
+    #[inline(always)]
+    pub fn end_with_bytes(&self, out: &mut Sheet, bytes: &[u8]) -> Result<(), AllocError>
+        ensures { OnOk result (out.new ≡ out.old ++ (self.now ++ (word (hex bytes.now) ++ newline))) }
+    {
+        self.write(out)?;
+        write_hex(out, bytes)?;
         write_newline(out)
     }
 

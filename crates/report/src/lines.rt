@@ -2,7 +2,7 @@
 ghost use Rattle.std.specs.Prelude.{◌≡◌, ◌≤◌, ◌++◌, ℕ, List, length, OnOk};
 ghost use Rattle.journal.specs.declared.journal.JournalEntry.TheVariants as entry;
 ghost use Rattle.journal.specs.Letters.{letters_held};
-ghost use Rattle.report.specs.Report.{lines_of, line, entry_lines, event_words, letter_line};
+ghost use Rattle.report.specs.Report.{lines_of, line, entry_lines, event_words, letter_line, post_line};
 
 use crate::line::Line;
 use crate::sheet::Sheet;
@@ -111,8 +111,27 @@ fn write_one_or_many(
     }
 }
 
-/// Writes a post, and its letters.
+/// Writes the first line of a post.
 #[tactic(auto, unfolding(crate::specs::Report::line))]
+pub fn write_post_line(
+    out: &mut Sheet,
+    actor: Actor,
+    first: u64,
+    count: u64,
+    lost: u64,
+) -> Result<(), AllocError>
+    ensures { OnOk result (out.new ≡ out.old ++ post_line actor first count lost) }
+{
+    let mut line = Line::new();
+    line.begin(b"post");
+    line.actor(actor);
+    line.number(first);
+    line.number(count);
+    line.number(lost);
+    line.end(out)
+}
+
+/// Writes a post, and its letters.
 fn write_post(
     alloc: Global,
     out: &mut Sheet,
@@ -123,21 +142,52 @@ fn write_post(
 ) -> Result<(), AllocError>
     ensures { OnOk result (out.new ≡ out.old ++ entry_lines (entry.Post actor first letters.old lost)) }
 {
-    let mut line = Line::new();
-    line.begin(b"post");
-    line.actor(actor);
-    line.number(first);
-    line.number(letters.len() as u64);
-    line.number(lost);
-    line.end(out)?;
+    write_post_line(out, actor, first, letters.len() as u64, lost)?;
     let mut each = replace(letters, Letters::new(alloc)).into_inner();
     let written = write_one_or_many(alloc, out, &mut each);
     *letters = Letters::from_inner(each);
     written
 }
 
+/// Writes a packet that was drawn.
 #[tactic(auto, unfolding(crate::specs::Report::line))]
-fn write_local(
+pub fn write_draw(out: &mut Sheet, actor: Actor, id: u64, keep: bool) -> Result<(), AllocError>
+    ensures { OnOk result (out.new ≡ out.old ++ entry_lines (entry.Draw actor id keep)) }
+{
+    let mut line = Line::new();
+    line.begin(b"draw");
+    line.actor(actor);
+    line.number(id);
+    line.flag(keep);
+    line.end(out)
+}
+
+/// Writes a packet that was lost.
+#[tactic(auto, unfolding(crate::specs::Report::line))]
+pub fn write_loss(out: &mut Sheet, actor: Actor, id: u64) -> Result<(), AllocError>
+    ensures { OnOk result (out.new ≡ out.old ++ entry_lines (entry.Lose actor id)) }
+{
+    let mut line = Line::new();
+    line.begin(b"lose");
+    line.actor(actor);
+    line.number(id);
+    line.end(out)
+}
+
+/// Writes that an actor found no packet.
+#[tactic(auto, unfolding(crate::specs::Report::line))]
+pub fn write_idle(out: &mut Sheet, actor: Actor) -> Result<(), AllocError>
+    ensures { OnOk result (out.new ≡ out.old ++ entry_lines (entry.Idle actor)) }
+{
+    let mut line = Line::new();
+    line.begin(b"idle");
+    line.actor(actor);
+    line.end(out)
+}
+
+/// Writes a local input. A long frame is moved out, and another is left in its place.
+#[tactic(auto, unfolding(crate::specs::Report::line))]
+pub fn write_local(
     alloc: Global,
     out: &mut Sheet,
     actor: Actor,
@@ -170,7 +220,6 @@ fn write_local(
     line.end(out)
 }
 
-#[tactic(auto, unfolding(crate::specs::Report::line))]
 fn write_entry(
     alloc: Global,
     out: &mut Sheet,
@@ -185,28 +234,10 @@ fn write_entry(
             letters,
             lost,
         } => write_post(alloc, out, *actor, *first, letters, *lost),
-        JournalEntry::Draw { actor, id, keep } => {
-            let mut line = Line::new();
-            line.begin(b"draw");
-            line.actor(*actor);
-            line.number(*id);
-            line.flag(*keep);
-            line.end(out)
-        }
-        JournalEntry::Lose { actor, id } => {
-            let mut line = Line::new();
-            line.begin(b"lose");
-            line.actor(*actor);
-            line.number(*id);
-            line.end(out)
-        }
+        JournalEntry::Draw { actor, id, keep } => write_draw(out, *actor, *id, *keep),
+        JournalEntry::Lose { actor, id } => write_loss(out, *actor, *id),
         JournalEntry::Local { actor, input } => write_local(alloc, out, *actor, input),
-        JournalEntry::Idle { actor } => {
-            let mut line = Line::new();
-            line.begin(b"idle");
-            line.actor(*actor);
-            line.end(out)
-        }
+        JournalEntry::Idle { actor } => write_idle(out, *actor),
         JournalEntry::Refused { .. } => Ok(()),
     }
 }

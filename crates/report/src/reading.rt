@@ -1,28 +1,37 @@
 //! Reading a report.
-ghost use Rattle.std.specs.Prelude.{◌≡◌, IfOk};
-ghost use Rattle.report.specs.Lines.{GivesLines, line_at};
+ghost use Rattle.std.specs.Prelude.{◌≡◌, ℕ, List, IfOk};
+ghost use Rattle.journal.specs.declared.journal.JournalEntry.{JournalEntry};
+ghost use Rattle.report.specs.Lines.{GivesLines, KeepsLines, line_at};
 ghost use Rattle.report.specs.OneLine.{first_line_at, last_line_at};
-ghost use Rattle.report.specs.Reading.{history_at, outcome_in_text, record_at, line_number, IsReadAs};
+ghost use Rattle.report.specs.Outline.{bare, IsKeptAs};
+ghost use Rattle.report.specs.Reading.{journal_at, history_at, outcome_in_text, record_at, line_number, IsReadAs};
 ghost use Rattle.report.specs.Records.{IsRecord};
 ghost use Rattle.report.specs.Report as report;
 ghost use Rattle.report.specs.Report.{text};
 ghost use Rattle.report.specs.Spelled.{GivesText};
 
 use crate::fault::{Broken, Misfit, ReportFault, on_line};
-use crate::journal_lines::journal;
 use crate::log_lines::log;
 use crate::record::{Record, SwitchRecord};
 use crate::setup_lines::setup;
 use crate::spelled::{after, end_of_line, ended, labelled};
 use crate::sums::write_sum_words;
 use crate::switch_lines::switches;
-use journal::Journal;
 use of_types::{Items, Octets};
 use std::alloc::{AllocError, Global};
 use vr_log::Entries;
 
 /// The most bytes of a report.
 pub const REPORT_LIMIT: usize = 268_435_456;
+
+/// What is kept of a journal as it is read.
+pub trait FromJournal: Drop {
+    ghost of: { List (JournalEntry (List ℕ)) → Self };
+
+    /// Reads the entries up to the line of the log.
+    fn read(alloc: Global, bytes: &[u8]) -> Result<(Self, &[u8]), Broken>
+        ensures { KeepsLines of result (journal_at bytes.now) };
+}
 
 /// The record that bytes are the text of.
 pub fn read_report(alloc: Global, bytes: &[u8]) -> Result<Record, ReportFault>
@@ -31,7 +40,9 @@ pub fn read_report(alloc: Global, bytes: &[u8]) -> Result<Record, ReportFault>
     // What is read is a record, and the bytes are its text.
     ensures found { IfOk result (λ r. IsRecord r × (text r ≡ bytes.now)) }
 {
-    whole(alloc, bytes)
+    let (mut record, journal) = whole(alloc, bytes)?;
+    record.journal = journal;
+    Ok(record)
 }
 
 #[tactic(auto, unfolding(crate::specs::OneLine::first_line_at))]
@@ -76,12 +87,12 @@ fn turns<'a>(
     on_line(bytes, last_line(sums.as_slice(), bytes))
 }
 
-/// The journal and the log.
+/// What is kept of the journal, and the log.
 #[tactic(auto, unfolding(crate::specs::Reading::history_at))]
-fn history(alloc: Global, bytes: &[u8]) -> Result<((Journal<Octets>, Entries), &[u8]), Broken>
-    ensures { GivesLines (λ x. (x.0, x.1.now)) result (history_at bytes.now) }
+fn history<J: FromJournal>(alloc: Global, bytes: &[u8]) -> Result<((J, Entries), &[u8]), Broken>
+    ensures { KeepsLines (λ history. (J.of history.0, history.1)) result (history_at bytes.now) }
 {
-    let (journal, rest) = journal(alloc, bytes)?;
+    let (journal, rest) = J::read(alloc, bytes)?;
     let (log, rest) = log(alloc, rest)?;
     Ok(((journal, log), rest))
 }
@@ -101,26 +112,24 @@ fn outcome(
     Ok(((switches, turns), rest))
 }
 
-/// The record that the front of these bytes is the text of, and what comes behind it.
+/// The record that the front of these bytes is the text of, but for its journal; what is kept of that; and what comes behind.
 #[tactic(auto, unfolding(crate::specs::Reading::record_at))]
-fn record(alloc: Global, bytes: &[u8]) -> Result<(Record, &[u8]), Broken>
-    ensures { GivesLines (λ x. (x.0, x.1.now)) result (record_at bytes.now) }
+fn record<J: FromJournal>(alloc: Global, bytes: &[u8]) -> Result<((Record, J), &[u8]), Broken>
+    ensures { KeepsLines (λ r. (bare r, J.of r.journal)) result (record_at bytes.now) }
 {
     let rest = on_line(bytes, first_line(bytes))?;
     let (setup, rest) = setup(alloc, rest)?;
     let ((journal, log), rest) = history(alloc, rest)?;
     let ((switches, (script, closing)), rest) = outcome(alloc, setup.ports.len(), log.len(), rest)?;
-    Ok((
-        Record {
-            setup,
-            journal,
-            log,
-            switches,
-            script,
-            closing,
-        },
-        rest,
-    ))
+    let bare = Record {
+        setup,
+        journal: Items::new(alloc),
+        log,
+        switches,
+        script,
+        closing,
+    };
+    Ok(((bare, journal), rest))
 }
 
 /// The number, from 1 on, of the line with which so many bytes are left.
@@ -136,13 +145,13 @@ fn line_number(bytes: &[u8], left: usize) -> u64
     line
 }
 
-/// The record that bytes, all of them, are the text of.
+/// The record that bytes, all of them, are the text of, but for its journal; and what is kept of that.
 #[tactic(auto, unfolding(crate::specs::Reading::report_at))]
-fn whole(alloc: Global, bytes: &[u8]) -> Result<Record, ReportFault>
-    ensures { IsReadAs bytes.now result }
+pub fn whole<J: FromJournal>(alloc: Global, bytes: &[u8]) -> Result<(Record, J), ReportFault>
+    ensures { IsKeptAs (λ r. (bare r, J.of r.journal)) bytes.now result }
 {
     match record(alloc, bytes) {
-        Ok((record, [])) => Ok(record),
+        Ok((read, [])) => Ok(read),
         Ok((_, rest)) => Err(ReportFault::NotText {
             line: line_number(bytes, rest.len()),
         }),

@@ -1,8 +1,10 @@
 //! The text of a report.
-ghost use Rattle.std.specs.Prelude.{◌≡◌, ◌≤◌, ◌^◌, ◌++◌, IfOk, OnOk};
+ghost use Rattle.std.specs.Prelude.{◌≡◌, ◌≤◌, ◌^◌, ◌++◌, length, map, IfOk, OnOk};
+ghost use Rattle.journal.specs.Entries.{Tile, whole_entry};
 ghost use Rattle.vr_log.specs.Log.{entry_size, log_size};
-ghost use Rattle.report.specs.Report.{port_line, port_lines, setup_line, setup_lines, log_lines, text};
+ghost use Rattle.report.specs.Report.{end_line, port_line, port_lines, setup_line, setup_lines, log_lines, switch_lines, text};
 
+use crate::heads::write_heads;
 use crate::line::Line;
 use crate::lines::{write_each, write_journal};
 use crate::parts::ReportText;
@@ -10,7 +12,8 @@ use crate::record::Record;
 use crate::sheet::Sheet;
 use crate::sums::write_end;
 use crate::switches::write_switches;
-use of_types::{Happening, Setup, size_of_match};
+use journal::{Head, Mailbag};
+use of_types::{Happening, Octets, Setup, size_of_match};
 use std::alloc::{AllocError, Global};
 use vr_log::Entry;
 
@@ -26,7 +29,7 @@ pub fn size_of_log(log: &[Entry]) -> u128
 }
 
 /// The text of a report. It is made in a fixed number of passes over the record, whose long bodies go to the text.
-#[tactic(auto, unfolding(crate::specs::Report::end_line, crate::specs::Report::line, crate::specs::Report::text))]
+#[tactic(auto, unfolding(crate::specs::Report::end_line, crate::specs::Report::text))]
 pub fn text(alloc: Global, told: &mut Record) -> Result<ReportText, AllocError>
     ensures { IfOk result (λ made. made ≡ text told.old) }
 {
@@ -34,10 +37,36 @@ pub fn text(alloc: Global, told: &mut Record) -> Result<ReportText, AllocError>
     out.append(b"ravana report 1\n")?;
     write_setup(alloc, &mut out, &told.setup)?;
     write_journal(alloc, &mut out, &mut told.journal)?;
-    write_log(alloc, &mut out, told.log.as_slice())?;
-    write_switches(alloc, &mut out, told.switches.as_slice())?;
-    write_end(&mut out, told)?;
+    write_behind_journal(alloc, &mut out, told)?;
     out.into_text()
+}
+
+/// The text of a report whose journal is kept apart from its letters, as a run leaves it. Long bodies go to the text.
+#[tactic(auto, unfolding(crate::specs::Report::end_line, crate::specs::Report::text))]
+pub fn text_of_run(
+    alloc: Global,
+    bare: &Record,
+    heads: &mut [Head],
+    letters: &mut Mailbag<Octets>,
+) -> Result<ReportText, AllocError>
+    requires { Tile 0 heads.old (length letters.old) }
+    ensures { IfOk result (λ made. made ≡ text (record bare.now { journal = map (whole_entry letters.old) heads.old })) }
+{
+    let mut out = Sheet::new(alloc);
+    out.append(b"ravana report 1\n")?;
+    write_setup(alloc, &mut out, &bare.setup)?;
+    write_heads(alloc, &mut out, heads, letters)?;
+    write_behind_journal(alloc, &mut out, bare)?;
+    out.into_text()
+}
+
+/// Writes what stands behind the journal.
+fn write_behind_journal(alloc: Global, out: &mut Sheet, told: &Record) -> Result<(), AllocError>
+    ensures { OnOk result (out.new ≡ out.old ++ (log_lines told.now.log ++ (switch_lines 0 told.now.switches ++ end_line told.now))) }
+{
+    write_log(alloc, out, told.log.as_slice())?;
+    write_switches(alloc, out, told.switches.as_slice())?;
+    write_end(out, told)
 }
 
 #[tactic(auto, unfolding(crate::specs::Report::line, crate::specs::Report::port_line))]

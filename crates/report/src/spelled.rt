@@ -1,9 +1,9 @@
 //! The words of a line as they are read. Each stands behind a space, and ends before the next space or the end of
 //! the line.
-ghost use Rattle.std.specs.Prelude.{◌≡◌, ◌≤◌, ◌<◌, ◌*◌, ℕ, List, length, position, Some, true, IfOk, IfSome};
+ghost use Rattle.std.specs.Prelude.{◌≡◌, ◌≤◌, ◌<◌, ◌*◌, ℕ, Bool, not, List, length, position, Some, true, IfOk, IfSome};
 ghost use Rattle.std.specs.List.{list_all, list_any};
 ghost use Rattle.report.specs.Spelled as spelled;
-ghost use Rattle.report.specs.Spelled.{◌>>=◌ as then_read, GivesText, is_text_digit};
+ghost use Rattle.report.specs.Spelled.{◌>>=◌ as then_read, GivesText, PassesText, is_text_digit};
 
 use crate::fault::Misfit;
 use journal::Actor;
@@ -48,49 +48,75 @@ pub fn known<'a>(name: &[u8], bytes: &'a [u8]) -> Result<&'a [u8], Misfit>
     after(name, rest)
 }
 
-fn ends_word(byte: u8) -> bool
-    ensures { result ≡ spelled.ends_word byte }
-{
-    byte == b' ' || byte == b'\n'
+/// A kind of bytes, the first of which ends the front of a text.
+trait Ending {
+    ghost ends: { ℕ → Bool };
+
+    /// Whether a byte is of the kind.
+    fn is_end(byte: u8) -> bool
+        ensures { result ≡ ends byte };
 }
 
-/// Where a word ends, if it ends.
-fn word_end(text: &[u8]) -> Option<usize>
-    ensures exact { result ≡ position spelled.ends_word text.now }
+/// What ends a word: a space, or the end of the line.
+struct WordEnd;
+
+impl Ending for WordEnd {
+    ghost ends = { spelled.ends_word };
+
+    fn is_end(byte: u8) -> bool {
+        byte == b' ' || byte == b'\n'
+    }
+}
+
+/// What ends digits of base sixteen: any other byte.
+struct OtherByte;
+
+impl Ending for OtherByte {
+    ghost ends = { λ byte. not (is_text_digit byte) };
+
+    fn is_end(byte: u8) -> bool {
+        !is_digit(byte)
+    }
+}
+
+/// Where the first byte of a kind stands, if there is one.
+fn end_place<E: Ending>(text: &[u8]) -> Option<usize>
+    ensures exact { result ≡ position E.ends text.now }
     ensures within { IfSome result (λ n. n ≤ length text.now) }
 {
-    text.iter().position(|byte| ends_word(*byte))
+    text.iter().position(|byte| E::is_end(*byte))
 }
 
-/// So many bytes of a long word are tested at a time.
+/// So many bytes of a long front are tested at a time.
 const BLOCK: usize = 16;
 
-/// Whether one of these bytes ends a word. Each is tested, whatever those before it were: a loop with no way out becomes vectors.
-fn has_end(block: &[u8; BLOCK]) -> bool
-    ensures { result ≡ list_any spelled.ends_word block.now }
+/// Whether one of these bytes is of a kind. Each is tested, whatever those before it were: a loop with no way out becomes vectors.
+fn has_end<E: Ending>(block: &[u8; BLOCK]) -> bool
+    ensures { result ≡ list_any E.ends block.now }
 {
     let mut found = false;
     for byte in block {
-        found |= ends_word(*byte);
+        found |= E::is_end(*byte);
     }
     found
 }
 
-/// How many bytes a word has. Blocks with no end are passed over first, which serves a long word; a short one `word_end` finds sooner.
-fn long_word_len(text: &[u8]) -> usize
-    ensures value { result ≡ spelled.length_before spelled.ends_word text.now }
+/// How many bytes stand before the first of a kind. Blocks with none are passed over first, which serves a long front; that of a
+/// short one `end_place` finds sooner.
+fn long_front<E: Ending>(text: &[u8]) -> usize
+    ensures value { result ≡ spelled.length_before E.ends text.now }
     ensures within { result ≤ length text.now }
 {
     let mut len = 0;
     let mut rest = text;
     'passing: while let Some((block, behind)) = rest.split_first_chunk::<BLOCK>() {
-        if has_end(block) {
+        if has_end::<E>(block) {
             break;
         }
         len += BLOCK;
         rest = behind;
     }
-    len + word_end(rest).unwrap_or(rest.len())
+    len + end_place::<E>(rest).unwrap_or(rest.len())
 }
 
 /// A word, and what comes behind it.
@@ -99,7 +125,7 @@ pub fn word(bytes: &[u8]) -> Result<(&[u8], &[u8]), Misfit>
     ensures { GivesText (λ x. (x.0.now, x.1.now)) result (spelled.word_at bytes.now) }
 {
     let text = after(b" ", bytes)?;
-    Ok(text.split_at(word_end(text).unwrap_or(text.len())))
+    Ok(text.split_at(end_place::<WordEnd>(text).unwrap_or(text.len())))
 }
 
 /// The same, for a word that may be long.
@@ -108,7 +134,7 @@ fn long_word(bytes: &[u8]) -> Result<(&[u8], &[u8]), Misfit>
     ensures { GivesText (λ x. (x.0.now, x.1.now)) result (spelled.word_at bytes.now) }
 {
     let text = after(b" ", bytes)?;
-    Ok(text.split_at(long_word_len(text)))
+    Ok(text.split_at(long_front::<WordEnd>(text)))
 }
 
 /// A number up to a greatest one.
@@ -387,4 +413,22 @@ pub fn hex(alloc: Global, bytes: &[u8]) -> Result<(Octets, &[u8]), Misfit>
     let (text, rest) = long_word(bytes)?;
     let bytes = hex_bytes(alloc, text)?;
     Ok((bytes, rest))
+}
+
+/// What comes behind a line whose last word is digits of base sixteen, or a dash for none. It is one walk over them, and no byte
+/// is kept.
+pub fn pass_hex(bytes: &[u8]) -> Result<&[u8], Misfit>
+    ensures { PassesText result (spelled.last_hex_at bytes.now) }
+{
+    let text = after(b" ", bytes)?;
+    let len = long_front::<OtherByte>(text);
+    if len == 0 {
+        let rest = after(b"-", text)?;
+        end_of_line(rest)
+    } else if len % 2 == 1 {
+        Err(Misfit::Text)
+    } else {
+        let (_, rest) = text.split_at(len);
+        end_of_line(rest)
+    }
 }

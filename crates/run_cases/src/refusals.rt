@@ -20,7 +20,7 @@ use scenario::{Scenario, read_scenario};
 use std::alloc::{AllocError, Global};
 use top_call::stables;
 use world::World;
-use world_record::bare_record;
+use world_record::record_of;
 
 /// How a run came out: its switches did what one controller that never fails issues, and so many inputs were refused; or it differs.
 #[derive(Drop)]
@@ -93,22 +93,22 @@ fn count_refused(entries: &[Head]) -> u64 {
 /// The report of a world without its journal.
 fn bare_report(
     alloc: Global,
-    world: &World<Bytes, Wanting>,
+    world: World<Bytes, Wanting>,
     primary: u8,
 ) -> Result<Octets, AllocError>
-    requires { primary < length world.now.controllers }
+    requires { primary < length world.controllers }
 {
-    let mut told = bare_record(alloc, world, primary, 0, 0)?;
+    let mut told = record_of(alloc, world, primary, 0, 0)?;
     let mut sink = MemorySink::new(alloc, usize::MAX, Vec::new(alloc));
-    match write_report(alloc, &mut told, &mut sink) {
+    match write_report(alloc, &mut told.record, &mut sink) {
         Ok(()) => Octets::from_slice(alloc, sink.taken()),
         Err(_) => Err(AllocError),
     }
 }
 
 /// Whether the audit finds nothing in the report of a world, by its committed log and its switches.
-fn is_sound(alloc: Global, world: &World<Bytes, Wanting>, primary: u8) -> Result<bool, AllocError>
-    requires { primary < length world.now.controllers }
+fn is_sound(alloc: Global, world: World<Bytes, Wanting>, primary: u8) -> Result<bool, AllocError>
+    requires { primary < length world.controllers }
 {
     let report = bare_report(alloc, world, primary)?;
     let verdict = check(alloc, report, &mut app_of(alloc, None)?)?;
@@ -118,19 +118,20 @@ fn is_sound(alloc: Global, world: &World<Bytes, Wanting>, primary: u8) -> Result
 /// Plays these steps in a world, and brings it to rest.
 fn play_in<W: Stable>(
     alloc: Global,
-    world: &mut World<Bytes, Wanting>,
+    world: World<Bytes, Wanting>,
     stables: &mut [W],
     steps: &[Turn],
 ) -> Result<Outcome, AllocError>
-    requires holds { (kinds : List ℕ) × Holds ⟦<Wanting as App>⟧.law ⟦<Bytes as Body>⟧.sealing world.old kinds }
-    requires pairs { PairsStand W.saving stables.old world.old.controllers }
-    requires named { AllByRecursion (λ t. IsActor world.old.setup (turn_actor t)) steps.now }
+    requires holds { (kinds : List ℕ) × Holds ⟦<Wanting as App>⟧.law ⟦<Bytes as Body>⟧.sealing world kinds }
+    requires pairs { PairsStand W.saving stables.old world.controllers }
+    requires named { AllByRecursion (λ t. IsActor world.setup (turn_actor t)) steps.now }
 {
-    if take_steps(world, stables, steps).is_err() {
+    let mut world = world;
+    if take_steps(&mut world, stables, steps).is_err() {
         return Ok(Outcome::Differs);
     }
     let refused = count_refused(world.heads());
-    let Some(primary) = come_to_rest(alloc, world, stables) else {
+    let Some(primary) = come_to_rest(alloc, &mut world, stables) else {
         return Ok(Outcome::Differs);
     };
     if is_sound(alloc, world, primary)? {
@@ -151,9 +152,9 @@ fn play(
 {
     let shelves = shelves_of(alloc, scenario.setup.controllers, controller, events)?;
     let mut stables: Vec<MemoryStable> = stables(alloc)?;
-    let mut world = World::<Bytes, Wanting>::new(alloc, &scenario.setup, shelves)?;
+    let world = World::<Bytes, Wanting>::new(alloc, &scenario.setup, shelves)?;
     let steps = scenario.steps.as_slice();
-    play_in(alloc, &mut world, stables.as_mut_slice(), steps)
+    play_in(alloc, world, stables.as_mut_slice(), steps)
 }
 
 /// Plays the scenario of these bytes so, and tells what it lacks. One that takes no event finds no memory for the first that it

@@ -129,19 +129,19 @@ module _ (limit : ℕ) where
     acknowledges_up : (log : List Entry) (commit : ℕ) → IsStepUpTo (steps.acknowledges (record s { log = log }) commit)
     acknowledges_up log commit = record { state = u; promise = tt; letters = (u.0, tt) }
 
-    prepare_up : (from view op commit : ℕ) (entry : Entry) → view ≤ limit → IsStepUpTo (normal_case.prepare s from (message.Prepare view op commit entry))
+    prepare_up : (from view op commit : ℕ) (entry : Entry) → view ≤ limit → IsStepUpTo (normal_case.prepare s from view op commit entry)
     prepare_up from view op commit entry h = primary_up from view (normal_case.prepares s op commit entry) h
         (cond_both (nat_le op (length s.log)) _ _ IsStepUpTo (λ _. acknowledges_up s.log commit)
         (λ _. cond_both (nat_eq op (length s.log + 1)) _ _ IsStepUpTo
         (λ _. cond_both (fits s.log entry) _ _ IsStepUpTo (λ _. acknowledges_up (s.log ++ entry ∷ []) commit) (λ _. quiet_up s u))
         (λ _. tells_up s (member.primary_of s s.view) (message.GetState s.view (length s.log)) u u.0)))
 
-    commit_up : (from view commit : ℕ) → view ≤ limit → IsStepUpTo (normal_case.commit_told s from (message.Commit view commit))
+    commit_up : (from view commit : ℕ) → view ≤ limit → IsStepUpTo (normal_case.commit_told s from view commit)
     commit_up from view commit h = primary_up from view (normal_case.commits s commit) h
         (cond_both (nat_le commit (length s.log)) _ _ IsStepUpTo (λ _. record { state = u; promise = tt; letters = tt })
         (λ _. tells_up s (member.primary_of s s.view) (message.GetState s.view (length s.log)) u u.0))
 
-    prepare_ok_up : (from view op : ℕ) → IsStepUpTo (normal_case.prepare_ok s from (message.PrepareOk view op))
+    prepare_ok_up : (from view op : ℕ) → IsStepUpTo (normal_case.prepare_ok s from view op)
     prepare_ok_up from view op = other_up from _ (cond_both (normal_case.is_counted s view op) _ _ IsStepUpTo (λ _. record { state = u; promise = tt; letters = tt }) (λ _. quiet_up s u))
 
     adopt_up : (view first commit : ℕ) (log : List Entry) → view ≤ limit → IsStepUpTo (adopting.adopt s view first commit log)
@@ -153,28 +153,28 @@ module _ (limit : ℕ) where
           letters = cond_both (nat_lt commit (length (take first s.log ++ log))) _ _ AreLettersUpTo (λ _. (h, tt)) (λ _. tt);
         })
 
-    start_view_up : (from view first commit : ℕ) (log : List Entry) → view ≤ limit → IsStepUpTo (change.start_view s from (message.StartView view first commit log))
+    start_view_up : (from view first commit : ℕ) (log : List Entry) → view ≤ limit → IsStepUpTo (change.start_view s from view first commit log)
     start_view_up from view first commit log h = other_up from _ (cond_both (member.is_primary_of s from view && member.is_newer s view) _ _ IsStepUpTo
         (λ _. guarded_up s (adopting.adopt s view first commit log) u (adopt_up view first commit log h)) (λ _. quiet_up s u))
 
-    get_up : (from view op : ℕ) → IsStepUpTo (transfer.get_state s from (message.GetState view op))
+    get_up : (from view op : ℕ) → IsStepUpTo (transfer.get_state s from view op)
     get_up from view op = other_up from _ (cond_both (transfer.is_answered s view op) _ _ IsStepUpTo (λ _. tells_up s from (message.NewState s.view op s.commit (drop op s.log)) u u.0) (λ _. quiet_up s u))
 
-    new_state_up : (from view first commit : ℕ) (log : List Entry) → view ≤ limit → IsStepUpTo (transfer.new_state s from (message.NewState view first commit log))
+    new_state_up : (from view first commit : ℕ) (log : List Entry) → view ≤ limit → IsStepUpTo (transfer.new_state s from view first commit log)
     new_state_up from view first commit log h = other_up from _ (cond_both (transfer.is_longer s view first log) _ _ IsStepUpTo
         (λ _. cond_both (follows s.log (transfer.lacking s first log)) _ _ IsStepUpTo (λ _. acknowledges_up (s.log ++ transfer.lacking s first log) commit) (λ _. quiet_up s u))
         (λ _. cond_both (transfer.is_adopted s view first) _ _ IsStepUpTo (λ _. guarded_up s (adopting.adopt s view first commit log) u (adopt_up view first commit log h)) (λ _. quiet_up s u)))
 
-    fetch_up : (from view op : ℕ) → IsStepUpTo (change.fetch s from (message.Fetch view op))
+    fetch_up : (from view op : ℕ) → IsStepUpTo (change.fetch s from view op)
     fetch_up from view op = other_up from _ (cond_both (change.is_change s view && nat_le op s.commit) _ _ IsStepUpTo
         (λ _. tells_up s from (message.Supply s.view op (drop op (take s.commit s.log))) u u.0) (λ _. quiet_up s u))
 
-    supply_up : (from view first : ℕ) (log : List Entry) → IsStepUpTo (change.supply s from (message.Supply view first log))
+    supply_up : (from view first : ℕ) (log : List Entry) → IsStepUpTo (change.supply s from view first log)
     supply_up from view first log =
         let t : VrState = change.supplied s first log in
         other_up from _ (cond_both (change.is_message_wanted s view first log) _ _ IsStepUpTo (λ _. guarded_up s (entering.check t) u (check_up t u)) (λ _. quiet_up s u))
 
-    start_view_change_up : (from view : ℕ) → view ≤ limit → IsStepUpTo (change.start_view_change s from (message.StartViewChange view))
+    start_view_change_up : (from view : ℕ) → view ≤ limit → IsStepUpTo (change.start_view_change s from view)
     start_view_change_up from view h = other_up from _ (cond_both (member.is_later s view) _ _ IsStepUpTo
         (λ _. noted_up view (λ next. entering.voted next from) h (h, h, u.2))
         (λ _. cond_both (nat_eq view s.view) _ _ IsStepUpTo
@@ -182,7 +182,7 @@ module _ (limit : ℕ) where
         (λ _. cond_both (member.leads s) _ _ IsStepUpTo (λ _. tells_up s from (entering.view_start s) u u.0) (λ _. quiet_up s u)))
         (λ _. quiet_up s u)))
 
-    do_view_change_up : (from view normal commit : ℕ) (log : List Entry) → view ≤ limit → IsStepUpTo (change.do_view_change s from (message.DoViewChange view normal commit log))
+    do_view_change_up : (from view normal commit : ℕ) (log : List Entry) → view ≤ limit → IsStepUpTo (change.do_view_change s from view normal commit log)
     do_view_change_up from view normal commit log h =
         let c : Collected = record { from = from; normal = normal; commit = commit; log = log } in
         other_up from _ (cond_both (member.is_primary_of s s.me view) _ _ IsStepUpTo
@@ -192,7 +192,7 @@ module _ (limit : ℕ) where
         (λ _. guarded_up s (entering.check (entering.collects s c)) u (check_up (entering.collects s c) (collects_up s u c))) (λ _. quiet_up s u)))
         (λ _. quiet_up s u))
 
-    recovery_up : (from nonce promise : ℕ) → promise ≤ limit → IsStepUpTo (recovering.recovery s from (message.Recovery nonce promise))
+    recovery_up : (from nonce promise : ℕ) → promise ≤ limit → IsStepUpTo (recovering.recovery s from nonce promise)
     recovery_up from nonce promise h = other_up from _ (cond_both (member.is_normal s) _ _ IsStepUpTo
         (λ _. cond_both (nat_lt s.view promise) _ _ IsStepUpTo (λ _. enters_up promise h) (λ _. tells_up s from (message.RecoveryResponse s.view nonce (recovering.filled s)) u u.0))
         (λ _. quiet_up s u))
@@ -211,7 +211,7 @@ module _ (limit : ℕ) where
   ends_up t u view h (Some f) = adopt_up (record t { responses = [] }) (u.0, u.1, tt) view 0 f.commit f.log h
 
   module _ (s : VrState) (u : IsStateUpTo s) where
-    response_up : (from view nonce : ℕ) (filled : Option Filled) → view ≤ limit → IsStepUpTo (recovering.response s from (message.RecoveryResponse view nonce filled))
+    response_up : (from view nonce : ℕ) (filled : Option Filled) → view ≤ limit → IsStepUpTo (recovering.response s from view nonce filled)
     response_up from view nonce filled h =
         let r : Response = record { from = from; view = view; filled = filled } in
         let t : VrState = recovering.responded s r in

@@ -7,19 +7,19 @@ use Rattle.journal.specs.declared.journal.Letter.{Letter}
 use Rattle.journal.specs.declared.journal.Packet.{Packet}
 use Rattle.journal.specs.declared.place.PacketPlace.{PacketPlace}
 use Rattle.journal.specs.Mailbags.{HasBody}
-use Rattle.journal.specs.Places.{packet_in, packet_at}
-use Rattle.journal.proofs.Placing.{slice_get-append}
+use Rattle.journal.specs.Places.{packet_at}
+use Rattle.journal.proofs.Placing.{stands_later}
 use Rattle.shared_wire.specs.Rule.{StartsWith}
 
 module _ {B : Type 0} where
-  stays_in : (k i : ℕ) (front more : List (JournalEntry B)) (e : Option (JournalEntry B)) → slice_get front i ≡ e → IsSome (packet_in k e) → packet_in k (slice_get (front ++ more) i) ≡ packet_in k e
-  stays_in k i front more None is some = cc
-  stays_in k i front more (Some e) is some = ap (packet_in k) (slice_get-append front more i e is)
+  stays_in : (packet : PacketPlace) (front more : List (JournalEntry B)) (p : Option (Packet B)) → packet_at packet front ≡ p → IsSome p → packet_at packet (front ++ more) ≡ p
+  stays_in packet front more None is some = cc
+  stays_in packet front more (Some p) is some = stands_later front more packet p is
 
   -- it stands there when the journal grows
   pub stays : (packet : PacketPlace) (front journal : List (JournalEntry B)) → StartsWith journal front → IsSome (packet_at packet front) → packet_at packet journal ≡ packet_at packet front
   stays packet front journal begins some =
-      ap (packet_at packet) begins.1 ∙ stays_in packet.letter packet.entry front begins.0 (slice_get front packet.entry) refl some
+      ap (packet_at packet) begins.1 ∙ stays_in packet front begins.0 (packet_at packet front) refl some
 
   pub still_seen : (packet : PacketPlace) (front journal : List (JournalEntry B)) → StartsWith journal front → IsSome (packet_at packet front) → IsSome (packet_at packet journal)
   still_seen packet front journal begins some = subst IsSome (sym (stays packet front journal begins some)) some

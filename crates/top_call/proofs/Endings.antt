@@ -23,7 +23,7 @@ use Rattle.top_call.specs.declared.service.Service.TheVariants as service
 use Rattle.top_call.specs.Audited.{report_limit, too_large}
 use Rattle.top_call.specs.Ending.{ending_status, outcome_text, EndsRead, EndsReport, EndsRun, EndsScenario}
 use Rattle.top_call.specs.Service.{limit_of}
-use Rattle.top_call.specs.Outcome.{Outcome, statuses, statuses_of_audit, IsOneLine, HasRead, To_the_end, Past_the_limit, IsUnserved, IsAudit, IsOfFourNumbers, IsPlayed, IsUnplayed, PlaysNothing, ReadsNothing, statuses_of_made, statuses_of_played, IsAsked, Of_bytes, Of_numbers, manner_of, service_for}
+use Rattle.top_call.specs.Outcome.{Outcome, statuses, statuses_of_audit, IsOneLine, HasRead, To_the_end, Past_the_limit, IsUnserved, IsAudit, IsOfFourNumbers, AsksToPlay, IsUnplayed, PlaysNothing, ReadsNothing, statuses_of_made, statuses_of_played, IsAsked, Of_bytes, Of_numbers, manner_of, service_for}
 use Rattle.top_call.specs.Outcome as outcome
 use Rattle.playing.specs.Manners.{Manner, In_order, Apart}
 use Rattle.journal.specs.Stables.{Saving}
@@ -100,7 +100,7 @@ scenario_ends manner kinds saves bytes scenario (Ok e) is ran = ran_ends manner 
 scenario_ends manner kinds saves bytes scenario (Err x) is ran = tt
 
 -- words that are not accepted ask for no scenario that is read, nor do those of an audit
-never_played : {A : Type 0} (words : List (List ℕ)) → service_for (job_of words) ≡ None → IsPlayed words → A
+never_played : {A : Type 0} (words : List (List ℕ)) → service_for (job_of words) ≡ None → AsksToPlay words → A
 never_played words none (manner, is) = by_job (job_of words) none is
   where
     by_job : {A : Type 0} (job : Option Job) → service_for job ≡ None → manner_of job ≡ Some manner → A
@@ -116,7 +116,7 @@ module _ (words : List (List ℕ)) (unread unfailed : Type 0) where
   -- an ending of a service that is none of words
   ends_tells : (s : Service) (e : Ending) → IsServed words s → ending_status e ≢ 2 → (ending_status e ≡ 4 → unread) → (ending_status e ≢ 4 → unfailed) →
       (IsAudit words → Contains statuses_of_audit (ending_status e)) → (IsOfFourNumbers words → Contains statuses_of_made (ending_status e)) →
-      (IsPlayed words → Contains statuses_of_played (ending_status e)) → TellsCause words unread unfailed e
+      (AsksToPlay words → Contains statuses_of_played (ending_status e)) → TellsCause words unread unfailed e
   ends_tells s e said no_usage failed served audit made played =
       record { usage = λ is. absurd (no_usage is); others = λ other. absurd (never_both words s said other); failed = failed; served = served; audit = audit; made = made; played = played }
 

@@ -41,7 +41,7 @@ use Rattle.run_spec.proofs.Pasts.{from_some}
 use Rattle.run_laws.specs.Told.{IsSpellable, IsSpellableEntry, IsSpellableEvent, IsSpellableOrder, IsSpellableRow, IsSpellableRun, IsSpellableSwitch}
 use Rattle.world.specs.World.{Worlding}
 use Rattle.report.specs.declared.record.Record.{Record}
-use Rattle.report.specs.Fits.{FitsRecord}
+use Rattle.report.specs.Fits.{FitsEntry, FitsRecord}
 use Rattle.report.specs.Writable.{AreWritable, HasLine, IsWritable, IsWritableEvent, IsWritableExecuted, IsWritableRow, IsWritableTold}
 use Rattle.report.proofs.Writable.{is_record}
 use Rattle.report.proofs.RecordAgain.{one_record as one_text}
@@ -50,6 +50,11 @@ use Rattle.top_call.specs.declared.sim.Output.{Output}
 use Rattle.top_call.specs.declared.sim.Output.TheVariants.{Report, LastLine}
 use Rattle.top_call.specs.Play.{IfReport, told_text}
 use Rattle.top_call.specs.Runs.{IsOneRecord}
+
+-- a record whose journal stands apart
+pub whole_fits : (bare : Record) (journal : List (JournalEntry (List ℕ))) → FitsRecord bare → AllByRecursion FitsEntry journal → FitsRecord (record bare { journal = journal })
+whole_fits bare journal f j =
+    record { rules = f.rules; journal_is = j; few_entries = f.few_entries; log = f.log; told = f.told; script = f.script; closing_is = f.closing_is }
 
 -- ---- each entry has a line
 

@@ -3,7 +3,7 @@ use Rattle.std.specs.Prelude.{◌≡◌, ◌≢◌, ℕ, List, Option, Contains}
 use Rattle.top_call.specs.declared.ending.Ending.{Ending}
 use Rattle.top_call.specs.Ending.{ending_status, outcome_text}
 use Rattle.top_call.specs.Runs.{Telling}
-use Rattle.top_call.specs.Outcome.{Outcome, IsReadOf, IsUnserved, IsAudit, IsOfFourNumbers, IsPlayed, statuses_of_audit, statuses_of_made, statuses_of_played}
+use Rattle.top_call.specs.Outcome.{Outcome, IsReadOf, IsUnserved, IsAudit, IsOfFourNumbers, AsksToPlay, statuses_of_audit, statuses_of_made, statuses_of_played}
 
 -- an ending has a cause
 abbrev pub HasEndingCause : List ℕ → Telling → List (List ℕ) → Type 0 → Option (List ℕ) → Option (List ℕ) → Ending → Type 0
@@ -19,7 +19,7 @@ pub record TellsCause (words : List (List ℕ)) (unread unfailed : Type 0) (endi
   pub served : ending_status ending ≢ 4 → unfailed
   pub audit : IsAudit words → Contains statuses_of_audit (ending_status ending)
   pub made : IsOfFourNumbers words → Contains statuses_of_made (ending_status ending)
-  pub played : IsPlayed words → Contains statuses_of_played (ending_status ending)
+  pub played : AsksToPlay words → Contains statuses_of_played (ending_status ending)
 
 -- what is written at the words of a made scenario, whatever the source tells: nothing of it is read
 abbrev pub IsOfNumbers : List ℕ → Telling → List (List ℕ) → Type 0 → Ending → Type 0

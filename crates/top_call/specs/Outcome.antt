@@ -71,8 +71,8 @@ manner_of (Some Run) = Some Apart
 manner_of _ = None
 
 -- words that ask to play a scenario that is read
-abbrev pub IsPlayed : List (List ℕ) → Type 0
-IsPlayed words = (manner : Manner) × (manner_of (job_of words) ≡ Some manner)
+abbrev pub AsksToPlay : List (List ℕ) → Type 0
+AsksToPlay words = (manner : Manner) × (manner_of (job_of words) ≡ Some manner)
 
 -- the scenario that words ask to play, in which manner, and what is told of its run at rest: of bytes that were all read, its
 -- report; of four numbers, the report's last line

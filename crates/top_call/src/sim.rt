@@ -2,11 +2,14 @@
 ghost use Rattle.std.specs.Prelude.{◌≡◌, ◌<◌, ◌≤◌, ℕ, List, length, IfOk};
 ghost use Rattle.world.specs.World.{AreStocked};
 ghost use Rattle.playing.specs.Manners.{In_order, Apart};
+ghost use Rattle.journal.specs.Entries.{Tile};
+ghost use Rattle.world_record.specs.Told.{whole_record};
 ghost use Rattle.world_record.specs.Shows.{told_by};
 ghost use Rattle.scenario.specs.Scenario.{IsScenario};
 ghost use Rattle.top_call.specs.declared.sim.Output.TheVariants as told_as;
 ghost use Rattle.top_call.specs.Ending.{EndsRun};
 ghost use Rattle.report.specs.Fits.{FitsRecord};
+ghost use Rattle.report.specs.Report.{text};
 ghost use Rattle.top_call.specs.Play.{AreFresh, IfDone, IfReport, StopsAs, ending_by, told_text};
 ghost use Rattle.top_call.specs.Runs.{StablesStay, StablesTell};
 
@@ -17,13 +20,13 @@ use closing::ClosingOutcome;
 use journal::{Gate, Stable, Stop};
 use players::Bytes;
 use playing::{play, play_apart};
-use report::{ReportText, last_line, record_fits, text};
+use report::{ReportText, journal_fits, last_line, record_fits, text_of_run};
 use scenario::Scenario;
 use std::alloc::{AllocError, Global};
 use std::sync::Wait;
 use std::thread::Threads;
 use world::World;
-use world_record::{record_of, sums_of};
+use world_record::{ToldRun, record_of, sums_of};
 
 /// What is told of a run that came to rest: its report, or the report's last line alone.
 #[derive(Clone, Copy)]
@@ -51,21 +54,42 @@ impl Output {
     {
         match self {
             Output::Report => {
-                let (mut told, actors) = record_of(alloc, world, primary, steps, script)?;
-                remains.let_go(actors);
-                record_fits(&told);
-                let made = text(alloc, &mut told);
-                remains.let_go(told);
-                made
+                let told = record_of(alloc, world, primary, steps, script)?;
+                tell_run(alloc, told, remains)
             }
             Output::LastLine => {
                 let sums = sums_of(&world, primary, steps, script);
                 remains.let_go(world);
-                let sums = sums?;
                 last_line(alloc, &sums)
             }
         }
     }
+}
+
+/// The report of a run, whose memory is let go.
+fn tell_run<A: App>(
+    alloc: Global,
+    told: ToldRun<A>,
+    remains: Remains,
+) -> Result<ReportText, AllocError>
+    requires { Tile 0 told.heads.items (length told.letters) }
+    ensures text { IfOk result (λ made. made ≡ text (whole_record told)) }
+    ensures fits { FitsRecord (whole_record told) }
+{
+    let ToldRun {
+        record,
+        mut heads,
+        mut letters,
+        actors,
+    } = told;
+    remains.let_go(actors);
+    record_fits(&record);
+    journal_fits(&heads, &letters);
+    let made = text_of_run(alloc, &record, &mut heads, &mut letters);
+    remains.let_go(record);
+    remains.let_go(heads);
+    remains.let_go(letters);
+    made
 }
 
 /// How a call ends by the end of a closing.
@@ -112,28 +136,27 @@ fn stopped(stop: Stop) -> Result<Ending, AllocError>
 /// Plays a scenario turn by turn, with the applications of the lives of each controller.
 pub fn simulate<A: App, W: Stable>(
     alloc: Global,
-    scenario: &Scenario,
+    scenario: Scenario,
     output: Output,
     stables: &mut [W],
     shelves: Vec<Vec<A>>,
     remains: Remains,
 ) -> Result<Ending, AllocError>
-    requires is { IsScenario scenario.now }
-    requires each { length shelves.items ≡ scenario.now.setup.controllers }
+    requires is { IsScenario scenario }
+    requires each { length shelves.items ≡ scenario.setup.controllers }
     requires stocked { (kinds : List ℕ) × AreStocked A.law kinds shelves.items }
     requires fresh { AreFresh W.saving stables.old }
     ensures ends { (kinds : List ℕ) → AreStocked A.law kinds shelves.items →
-        IfOk result (EndsRun In_order kinds (StablesTell W.saving stables.old stables.new) output scenario.now) }
+        IfOk result (EndsRun In_order kinds (StablesTell W.saving stables.old stables.new) output scenario) }
     ensures stay { StablesStay W.saving stables.old stables.new }
 {
-    let mut world = World::<Bytes, A>::new(alloc, &scenario.setup, shelves)?;
-    let ended = play(alloc, &mut world, stables, scenario.steps.as_slice());
+    let Scenario { setup, steps } = scenario;
+    let mut world = World::<Bytes, A>::new(alloc, &setup, shelves)?;
+    let count = steps.len();
+    let ended = play(alloc, &mut world, stables, steps);
     world.lawful();
     match ended {
-        Ok((closed, script)) => {
-            let steps = scenario.steps.len();
-            rested(alloc, world, output, closed, steps, script, remains)
-        }
+        Ok((closed, script)) => rested(alloc, world, output, closed, count, script, remains),
         Err(stop) => {
             remains.let_go(world);
             stopped(stop)

@@ -7,7 +7,7 @@ ghost use Rattle.playing.specs.Manners.{In_order, Apart};
 ghost use Rattle.top_call.specs.declared.service.Reader.TheVariants as readers;
 ghost use Rattle.top_call.specs.declared.sim.Output.TheVariants as told_as;
 ghost use Rattle.top_call.specs.Call.{ForChains, IsAnswered, IsCompleted, IsMadeOfNumbers, stream};
-ghost use Rattle.top_call.specs.Outcome.{IsOneLine, IsWritten, IsUnserved, IsAudit, IsOfFourNumbers, IsPlayed, IsUnplayed, PlaysNothing, ReadsNothing, service_for, statuses, statuses_of_usage, statuses_of_audit, statuses_of_made, statuses_of_played};
+ghost use Rattle.top_call.specs.Outcome.{IsOneLine, IsWritten, IsUnserved, IsAudit, IsOfFourNumbers, AsksToPlay, IsUnplayed, PlaysNothing, ReadsNothing, service_for, statuses, statuses_of_usage, statuses_of_audit, statuses_of_made, statuses_of_played};
 ghost use Rattle.top_call.specs.Ending.{ending_status, EndsRead, EndsScenario, EndsRun};
 ghost use Rattle.top_call.specs.Cause.{HasEndingCause, IsOfNumbers, TellsCause};
 ghost use Rattle.top_call.specs.Play.{AreChains, AreFresh};
@@ -63,7 +63,7 @@ pub fn ravana<
     ensures audit { IsAudit (map string_bytes words.now) → Contains statuses_of_audit result }
     ensures complete { ForChains A.law chains.items (λ kinds. IsCompleted kinds (map string_bytes words.now) (stream S.left S.faults source.old source.new) (stream K.taken K.faults sink.old sink.new) (AreCalm W.saving stables.old.items stables.new.items) result) }
     ensures made { IsOfFourNumbers (map string_bytes words.now) → Contains statuses_of_made result }
-    ensures played { IsPlayed (map string_bytes words.now) → Contains statuses_of_played result }
+    ensures played { AsksToPlay (map string_bytes words.now) → Contains statuses_of_played result }
     ensures unread { result ≡ 4 → Rose (S.faults source.old) (S.faults source.new) }
     ensures unwritten { result ≡ 5 → Rose (K.faults sink.old) (K.faults sink.new) }
     ensures range { Contains statuses result }
@@ -112,17 +112,17 @@ fn service_for(words: &[String]) -> Option<Service>
 /// How the run of a scenario ends.
 fn end_of_scenario<A: App, W: Stable>(
     alloc: Global,
-    scenario: &Scenario,
+    scenario: Scenario,
     output: Output,
     stables: &mut Vec<W>,
     chains: Vec<A>,
     remains: Remains,
 ) -> Result<Ending, AllocError>
-    requires is { IsScenario scenario.now }
+    requires is { IsScenario scenario }
     requires chains { (kinds : List ℕ) × AreChains A.law kinds chains.items }
     requires fresh { AreFresh W.saving stables.old.items }
     ensures ends { (kinds : List ℕ) → AreChains A.law kinds chains.items →
-        IfOk result (EndsRun In_order kinds (StablesTell W.saving stables.old.items stables.new.items) output scenario.now) }
+        IfOk result (EndsRun In_order kinds (StablesTell W.saving stables.old.items stables.new.items) output scenario) }
     ensures unplayed { IfOk result (λ ending. IsUnplayed (ending_status ending) → stables.new.items ≡ stables.old.items) }
     ensures stay { StablesStay W.saving stables.old.items stables.new.items }
 {
@@ -148,16 +148,7 @@ fn simulated<A: App, W: Stable>(
     match read_scenario(alloc, bytes.as_slice()) {
         Ok(scenario) => {
             drop(bytes);
-            let ending = end_of_scenario(
-                alloc,
-                &scenario,
-                Output::Report,
-                stables,
-                chains,
-                remains,
-            );
-            remains.let_go(scenario);
-            ending
+            end_of_scenario(alloc, scenario, Output::Report, stables, chains, remains)
         }
         Err(ScenarioFault::Refused(fault)) => Ok(Ending::Refused(fault)),
         Err(ScenarioFault::OutOfMemory) => Err(AllocError),
@@ -290,16 +281,7 @@ fn outcome<
             },
         ) => {
             let scenario = generate(alloc, number, controllers, switches, frames)?;
-            let ending = end_of_scenario(
-                alloc,
-                &scenario,
-                Output::LastLine,
-                stables,
-                chains,
-                remains,
-            );
-            remains.let_go(scenario);
-            ending
+            end_of_scenario(alloc, scenario, Output::LastLine, stables, chains, remains)
         }
         Some(Service::Reads(reader)) => match read_input(alloc, source, reader.limit()) {
             Ok(bytes) => {

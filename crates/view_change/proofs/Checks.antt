@@ -188,13 +188,3 @@ collects_ready s t view c v is =
     let some : 0 < s.controllers = let m = v.member in omega arith in
     rw is (choice Ready (has_collected (entered_view s view) c.from) (entered_view s view) (record (entered_view s view) { collected = [] ++ c ∷ [] })
     (record { log = v.log; group = some; commit = v.commit; supply = tt }) (record { log = v.log; group = some; commit = v.commit; supply = tt }))
-
--- the cases of the messages that bring entries
-pub collect_on : {E : Type 0} (r : Result (Unit {0}) E) (s u : VrState) (m : VrMessage) (from view normal commit : ℕ) (log copied told : List Entry) (old new : VrOut) → is_other s from ≡ true → is_primary_of s s.me view ≡ true →
-    m ≡ message.DoViewChange view normal commit log → told ≡ copied → copied ≡ log →
-    OnOk r (Did (collect s view (record { from = from; normal = normal; commit = commit; log = told })) u old new) → OnOk r (Did (do_view_change s from m) u old new)
-collect_on r s u m from view normal commit log copied told old new other mine is a b h =
-    let here : do_view_change s from (message.DoViewChange view normal commit log) ≡ collect s view (record { from = from; normal = normal; commit = commit; log = log }) = rw (other, mine) refl in
-    let step : do_view_change s from m ≡ collect s view (record { from = from; normal = normal; commit = commit; log = told }) =
-    ap (λ (x : VrMessage). do_view_change s from x) is ∙ (here ∙ ap (λ (l : List Entry). collect s view (record { from = from; normal = normal; commit = commit; log = l })) (sym (a ∙ b))) in
-    subst (λ (x : VrStep). OnOk r (Did x u old new)) (sym step) h

@@ -7,8 +7,6 @@ use Rattle.std.proofs.lemmas.Bool.Decides.{nat_tests}
 use Rattle.std.proofs.lemmas.List.{length-replicate, length-take-le}
 use Rattle.of_types.specs.SmallSets.{with_number}
 use Rattle.vr_log.specs.declared.entry.Entry.{Entry}
-use Rattle.vr_log.specs.declared.message.VrMessage.{VrMessage}
-use Rattle.vr_log.specs.declared.message.VrMessage.TheVariants.{DoViewChange}
 use Rattle.vr_log.specs.declared.state.Collected.{Collected}
 use Rattle.vr_log.specs.declared.state.VrState.{VrState}
 use Rattle.vr_log.specs.Members.{is_changing, is_primary, is_primary_of, is_other, is_later, leads, most_failures}
@@ -232,8 +230,8 @@ pub vote_here_valid : (s : VrState) (from : ℕ) → IsValidState s → is_other
 vote_here_valid s from v other =
     either IsValidState (is_changing s) _ _ (check_valid s (voted s from) (check (voted s from)) v (voted_valid s from v (other_below s from other)) refl) (either IsValidState (leads s) _ _ v v)
 
-pub do_view_change_valid : (s : VrState) (from : ℕ) (m : VrMessage) → IsValidState s → IsValidState (do_view_change s from m).state
-do_view_change_valid s from (DoViewChange view normal commit log) v =
+pub do_view_change_valid : (s : VrState) (from view normal commit : ℕ) (log : List Entry) → IsValidState s → IsValidState (do_view_change s from view normal commit log).state
+do_view_change_valid s from view normal commit log v =
     chosen_by IsValidState (is_other s from) _ _
     (λ other.
     let lt = other_below s from other in
@@ -244,7 +242,6 @@ do_view_change_valid s from (DoViewChange view normal commit log) v =
     (either IsValidState (nat_eq view s.view && is_changing s) (guarded s (check (collects s c))) (quiet s) (check_valid s (collects s c) (check (collects s c)) v (collects_valid s c v lt) refl) v))
     v)
     (λ no. v)
-do_view_change_valid s from _ v = v
 
 adopted_passes : (s : VrState) (view first commit : ℕ) (log : List Entry) → IsValidState s → Passes (adopted_log s view first commit log)
 adopted_passes s view first commit log v sound = record {

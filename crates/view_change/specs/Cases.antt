@@ -1,8 +1,6 @@
--- The messages of a view change (Viewstamped Replication Revisited, 4.2), and what each does. A message of another
--- kind does nothing here.
+-- The messages of a view change (Viewstamped Replication Revisited, 4.2), and what each does.
 use Rattle.std.specs.Prelude.{ℕ, ◌+◌, Bool, nat_eq, nat_le, nat_lt, ◌&&◌, List, length, take, drop, Some, if◌then◌else◌}
 use Rattle.vr_log.specs.declared.entry.Entry.{Entry}
-use Rattle.vr_log.specs.declared.message.VrMessage.{VrMessage}
 use Rattle.vr_log.specs.declared.message.VrMessage.TheVariants as message
 use Rattle.vr_log.specs.declared.state.Collected.{Collected}
 use Rattle.vr_log.specs.declared.state.VrState.{VrState}
@@ -29,12 +27,11 @@ vote_here s from =
     if is_changing s then guarded s (check (voted s from))
     else if leads s then tells s from (view_start s) else quiet s
 
-abbrev pub start_view_change : VrState → ℕ → VrMessage → VrStep
-start_view_change s from (message.StartViewChange view) =
+abbrev pub start_view_change : VrState → ℕ → ℕ → VrStep
+start_view_change s from view =
     if is_other s from
     then (if is_later s view then vote_later s from view else if nat_eq view s.view then vote_here s from else quiet s)
     else quiet s
-start_view_change s from _ = quiet s
 
 -- DOVIEWCHANGE: the primary of a later view, or of this one while it changes, collects a log
 abbrev pub collect_later : VrState → ℕ → Collected → VrStep
@@ -45,33 +42,30 @@ collect s view c =
     if is_later s view then collect_later s view c
     else if nat_eq view s.view && is_changing s then guarded s (check (collects s c)) else quiet s
 
-abbrev pub do_view_change : VrState → ℕ → VrMessage → VrStep
-do_view_change s from (message.DoViewChange view normal commit log) =
+abbrev pub do_view_change : VrState → ℕ → ℕ → ℕ → ℕ → List Entry → VrStep
+do_view_change s from view normal commit log =
     if is_other s from
     then (if is_primary_of s s.me view then collect s view (record { from = from; normal = normal; commit = commit; log = log }) else quiet s)
     else quiet s
-do_view_change s from _ = quiet s
 
 -- STARTVIEW: the log of a newer view is adopted
-abbrev pub start_view : VrState → ℕ → VrMessage → VrStep
-start_view s from (message.StartView view first commit log) =
+abbrev pub start_view : VrState → ℕ → ℕ → ℕ → ℕ → List Entry → VrStep
+start_view s from view first commit log =
     if is_other s from
     then (if is_primary_of s from view && is_newer s view then guarded s (adopt s view first commit log) else quiet s)
     else quiet s
-start_view s from _ = quiet s
 
 -- it is of this view, which changes
 abbrev pub is_change : VrState → ℕ → Bool
 is_change s view = is_changing s && nat_eq view s.view
 
 -- FETCH: committed entries are told
-abbrev pub fetch : VrState → ℕ → VrMessage → VrStep
-fetch s from (message.Fetch view op) =
+abbrev pub fetch : VrState → ℕ → ℕ → ℕ → VrStep
+fetch s from view op =
     if is_other s from
     then (if is_change s view && nat_le op s.commit
     then tells s from (message.Supply s.view op (drop op (take s.commit s.log))) else quiet s)
     else quiet s
-fetch s from _ = quiet s
 
 -- SUPPLY: a primary keeps entries that go beyond those it has
 abbrev pub is_message_wanted : VrState → ℕ → ℕ → List Entry → Bool
@@ -81,9 +75,8 @@ is_message_wanted s view first log =
 abbrev pub supplied : VrState → ℕ → List Entry → VrState
 supplied s first log = record s { supply = Some (record { first = first; log = log }) }
 
-abbrev pub supply : VrState → ℕ → VrMessage → VrStep
-supply s from (message.Supply view first log) =
+abbrev pub supply : VrState → ℕ → ℕ → ℕ → List Entry → VrStep
+supply s from view first log =
     if is_other s from
     then (if is_message_wanted s view first log then guarded s (check (supplied s first log)) else quiet s)
     else quiet s
-supply s from _ = quiet s

@@ -1,5 +1,4 @@
-//! The messages of a view change. One that is of another kind than its call changes nothing. After an `Err` the
-//! state is to be dropped.
+//! The messages of a view change, each by its fields. After an `Err` the state is to be dropped.
 ghost use Rattle.std.specs.Prelude.{◌≡◌, ◌≤◌, true, length, drop, take, IfOk, OnOk};
 ghost use Rattle.vr_log.specs.Members.{is_other};
 ghost use Rattle.vr_log.specs.Steps.{Did, guarded};
@@ -81,26 +80,21 @@ fn vote_here(state: &mut VrState, from: u8, out: &mut VrOut) -> Result<(), Alloc
 pub fn on_start_view_change(
     state: &mut VrState,
     from: u8,
-    message: &VrMessage,
+    view: u32,
     out: &mut VrOut,
 ) -> Result<(), AllocError>
     requires { IsValidState state.old }
-    ensures step { OnOk result (Did (cases.start_view_change state.old from message.now) state.new out.old out.new) }
+    ensures step { OnOk result (Did (cases.start_view_change state.old from view) state.new out.old out.new) }
     ensures valid { OnOk result (IsValidState state.new) }
 {
-    match message {
-        VrMessage::StartViewChange { view } => {
-            if !state.is_other(from) {
-                Ok(())
-            } else if state.is_later(*view) {
-                vote_later(state, from, *view, out)
-            } else if *view == state.view {
-                vote_here(state, from, out)
-            } else {
-                Ok(())
-            }
-        }
-        _ => Ok(()),
+    if !state.is_other(from) {
+        Ok(())
+    } else if state.is_later(view) {
+        vote_later(state, from, view, out)
+    } else if view == state.view {
+        vote_here(state, from, out)
+    } else {
+        Ok(())
     }
 }
 
@@ -158,68 +152,50 @@ fn collect_told(
 pub fn on_do_view_change(
     state: &mut VrState,
     from: u8,
-    message: &VrMessage,
+    view: u32,
+    normal: u32,
+    commit: u64,
+    log: Entries,
     out: &mut VrOut,
 ) -> Result<(), AllocError>
     requires { IsValidState state.old }
-    ensures step { OnOk result (Did (cases.do_view_change state.old from message.now) state.new out.old out.new) }
+    ensures step { OnOk result (Did (cases.do_view_change state.old from view normal commit log) state.new out.old out.new) }
     ensures valid { OnOk result (IsValidState state.new) }
 {
-    match message {
-        VrMessage::DoViewChange {
-            view,
-            normal,
-            commit,
-            log,
-        } => {
-            if !state.is_other(from) {
-                return Ok(());
-            }
-            if !state.is_primary_of(state.me, *view) {
-                return Ok(());
-            }
-            let collected = Collected {
-                from,
-                normal: *normal,
-                commit: *commit,
-                log: copy_entries(state.log.allocator(), log.as_slice())?,
-            };
-            collect_told(state, *view, collected, out)
-        }
-        _ => Ok(()),
+    if !state.is_other(from) {
+        return Ok(());
     }
+    if !state.is_primary_of(state.me, view) {
+        return Ok(());
+    }
+    let collected = Collected {
+        from,
+        normal,
+        commit,
+        log,
+    };
+    collect_told(state, view, collected, out)
 }
 
 /// STARTVIEW: a view has started with a log.
 pub fn on_start_view(
     state: &mut VrState,
     from: u8,
-    message: &VrMessage,
+    view: u32,
+    first: u64,
+    commit: u64,
+    log: Entries,
     out: &mut VrOut,
 ) -> Result<(), AllocError>
     requires { IsValidState state.old }
-    ensures step { OnOk result (Did (cases.start_view state.old from message.now) state.new out.old out.new) }
+    ensures step { OnOk result (Did (cases.start_view state.old from view first commit log) state.new out.old out.new) }
     ensures valid { OnOk result (IsValidState state.new) }
 {
-    match message {
-        VrMessage::StartView {
-            view,
-            first,
-            commit,
-            log,
-        } => {
-            if !(state.is_other(from)
-                && state.is_primary_of(from, *view)
-                && state.is_newer(*view))
-            {
-                return Ok(());
-            }
-            let entries = copy_entries(state.log.allocator(), log.as_slice())?;
-            adopt(state, *view, *first, *commit, entries, out)?;
-            Ok(())
-        }
-        _ => Ok(()),
+    if !(state.is_other(from) && state.is_primary_of(from, view) && state.is_newer(view)) {
+        return Ok(());
     }
+    adopt(state, view, first, commit, log, out)?;
+    Ok(())
 }
 
 /// Whether this view changes, and is this one.
@@ -243,27 +219,23 @@ fn committed_after(state: &VrState, op: u64) -> Result<Entries, AllocError>
 pub fn on_fetch(
     state: &mut VrState,
     from: u8,
-    message: &VrMessage,
+    view: u32,
+    op: u64,
     out: &mut VrOut,
 ) -> Result<(), AllocError>
     requires { IsValidState state.old }
-    ensures step { OnOk result (Did (cases.fetch state.old from message.now) state.new out.old out.new) }
+    ensures step { OnOk result (Did (cases.fetch state.old from view op) state.new out.old out.new) }
     ensures valid { IsValidState state.new }
 {
-    match message {
-        VrMessage::Fetch { view, op } => {
-            if !(state.is_other(from) && is_change(state, *view) && *op <= state.commit) {
-                return Ok(());
-            }
-            let message = VrMessage::Supply {
-                view: *view,
-                first: *op,
-                log: committed_after(state, *op)?,
-            };
-            out.tell(from, message)
-        }
-        _ => Ok(()),
+    if !(state.is_other(from) && is_change(state, view) && op <= state.commit) {
+        return Ok(());
     }
+    let message = VrMessage::Supply {
+        view,
+        first: op,
+        log: committed_after(state, op)?,
+    };
+    out.tell(from, message)
 }
 
 /// Whether supplied entries go beyond the committed ones that this primary has.
@@ -278,32 +250,27 @@ fn is_wanted(state: &VrState, view: u32, first: u64, log: &[Entry]) -> bool
 }
 
 /// Takes committed entries, and gives those that there were. They join the log only with the view's start.
-fn take_supply(
-    state: &mut VrState,
-    first: u64,
-    log: &[Entry],
-) -> Result<Option<Supplied>, AllocError>
+fn take_supply(state: &mut VrState, first: u64, log: Entries) -> Option<Supplied>
     requires valid { IsValidState state.old }
     requires first { first ≤ state.old.commit }
-    ensures former { IfOk result (λ former. former ≡ state.old.supply) }
-    ensures state { OnOk result (state.new ≡ cases.supplied state.old first log.now) }
+    ensures former { result ≡ state.old.supply }
+    ensures state { state.new ≡ cases.supplied state.old first log }
 {
-    let log = copy_entries(state.log.allocator(), log)?;
-    Ok(mem::replace(&mut state.supply, Some(Supplied { first, log })))
+    mem::replace(&mut state.supply, Some(Supplied { first, log }))
 }
 
 /// Supplied entries for the view that is to start.
 fn keep_supply(
     state: &mut VrState,
     first: u64,
-    log: &[Entry],
+    log: Entries,
     out: &mut VrOut,
 ) -> Result<(), AllocError>
     requires valid { IsValidState state.old }
     requires first { first ≤ state.old.commit }
-    ensures { OnOk result (Did (guarded state.old (entering.check (cases.supplied state.old first log.now))) state.new out.old out.new) }
+    ensures { OnOk result (Did (guarded state.old (entering.check (cases.supplied state.old first log))) state.new out.old out.new) }
 {
-    let former = take_supply(state, first, log)?;
+    let former = take_supply(state, first, log);
     let kept = check(state, out)?;
     if !kept {
         state.supply = former;
@@ -315,23 +282,20 @@ fn keep_supply(
 pub fn on_supply(
     state: &mut VrState,
     from: u8,
-    message: &VrMessage,
+    view: u32,
+    first: u64,
+    log: Entries,
     out: &mut VrOut,
 ) -> Result<(), AllocError>
     requires { IsValidState state.old }
-    ensures step { OnOk result (Did (cases.supply state.old from message.now) state.new out.old out.new) }
+    ensures step { OnOk result (Did (cases.supply state.old from view first log) state.new out.old out.new) }
     ensures valid { OnOk result (IsValidState state.new) }
 {
-    match message {
-        VrMessage::Supply { view, first, log } => {
-            if !state.is_other(from) {
-                return Ok(());
-            }
-            if !is_wanted(state, *view, *first, log.as_slice()) {
-                return Ok(());
-            }
-            keep_supply(state, *first, log.as_slice(), out)
-        }
-        _ => Ok(()),
+    if !state.is_other(from) {
+        return Ok(());
     }
+    if !is_wanted(state, view, first, log.as_slice()) {
+        return Ok(());
+    }
+    keep_supply(state, first, log, out)
 }

@@ -71,7 +71,7 @@ ok_does s from op normal h =
     after s next (quiet (counted next)) (λ k. record { lasts = unchanged s next refl refl refl refl refl refl refl; holds = record { reach = k.reach; own = not_changing next normal } })
     (risen next (agreed next) normal w.0 w.1 []) h
 
-counts_does : (s : VrState) (from view op : ℕ) → Does s (prepare_ok s from (message.PrepareOk view op))
+counts_does : (s : VrState) (from view op : ℕ) → Does s (prepare_ok s from view op)
 counts_does s from view op =
     either (Does s) (is_other s from) _ _
     (λ _. either (Does s) (is_counted s view op) _ _
@@ -187,7 +187,7 @@ voted_does s t from log commit sound =
     after t (voted t from) (check (voted t from)) (λ h. record { lasts = unchanged t (voted t from) refl refl refl refl refl refl refl; holds = record { reach = h.reach; own = h.own } })
     (check_does s (voted t from) log commit sound)
 
-change_does : (s : VrState) (from view : ℕ) → Does s (start_view_change s from (message.StartViewChange view))
+change_does : (s : VrState) (from view : ℕ) → Does s (start_view_change s from view)
 change_does s from view =
     either (Does s) (is_other s from) _ _
     (λ _. either (Does s) (is_later s view) _ _
@@ -218,7 +218,7 @@ collect_does s view c other =
     (λ _. checked s (check (collects s c)) (collects_does s s c other refl refl))
     (λ _. rests s []))
 
-log_does : (s : VrState) (from view normal commit : ℕ) (log : List Entry) → Does s (do_view_change s from (message.DoViewChange view normal commit log))
+log_does : (s : VrState) (from view normal commit : ℕ) (log : List Entry) → Does s (do_view_change s from view normal commit log)
 log_does s from view normal commit log =
     either (Does s) (is_other s from) _ _
     (λ other. either (Does s) (is_primary_of s s.me view) _ _
@@ -244,7 +244,7 @@ adopt_does s view first commit log =
     either (λ (t : VrStep). is_sound s t.state ≡ true → Does s t) (nat_lt s.commit first) (asks s view s.commit) (adopts s view first commit log)
     (λ _ _. rests s []) (λ _ sound. adopts_does s view first commit log sound)
 
-view_does : (s : VrState) (from view first commit : ℕ) (log : List Entry) → Does s (start_view s from (message.StartView view first commit log))
+view_does : (s : VrState) (from view first commit : ℕ) (log : List Entry) → Does s (start_view s from view first commit log)
 view_does s from view first commit log =
     either (Does s) (is_other s from) _ _
     (λ _. either (Does s) (is_primary_of s from view && is_newer s view) _ _
@@ -252,13 +252,13 @@ view_does s from view first commit log =
     (λ _. rests s []))
     (λ _. rests s [])
 
-fetch_does : (s : VrState) (from view op : ℕ) → Does s (fetch s from (message.Fetch view op))
+fetch_does : (s : VrState) (from view op : ℕ) → Does s (fetch s from view op)
 fetch_does s from view op =
     either (Does s) (is_other s from) _ _
     (λ _. either (Does s) (is_change s view && nat_le op s.commit) _ _ (λ _. rests s []) (λ _. rests s []))
     (λ _. rests s [])
 
-supply_does : (s : VrState) (from view first : ℕ) (log : List Entry) → Does s (supply s from (message.Supply view first log))
+supply_does : (s : VrState) (from view first : ℕ) (log : List Entry) → Does s (supply s from view first log)
 supply_does s from view first log =
     either (Does s) (is_other s from) _ _
     (λ _. either (Does s) (is_message_wanted s view first log) _ _
@@ -269,7 +269,7 @@ supply_does s from view first log =
     (λ _. rests s [])
 
 -- state transfer and recovery
-get_does : (s : VrState) (from view op : ℕ) → Does s (get_state s from (message.GetState view op))
+get_does : (s : VrState) (from view op : ℕ) → Does s (get_state s from view op)
 get_does s from view op =
     either (Does s) (is_other s from) _ _
     (λ _. either (Does s) (is_answered s view op) _ _ (λ _. rests s []) (λ _. rests s []))
@@ -285,7 +285,7 @@ completes_does : (s : VrState) (first commit : ℕ) (log : List Entry) → is_no
 completes_does s first commit log normal =
     either (Does s) (follows s.log (lacking s first log)) _ _ (λ _. acknowledged s (lacking s first log) commit normal) (λ _. rests s [])
 
-new_does : (s : VrState) (from view first commit : ℕ) (log : List Entry) → Does s (new_state s from (message.NewState view first commit log))
+new_does : (s : VrState) (from view first commit : ℕ) (log : List Entry) → Does s (new_state s from view first commit log)
 new_does s from view first commit log =
     either (Does s) (is_other s from) _ _
     (λ _. either (Does s) (is_longer s view first log) (completes s first commit log) (if is_adopted s view first then guarded s (adopt s view first commit log) else quiet s)
@@ -293,7 +293,7 @@ new_does s from view first commit log =
     (λ _. either (Does s) (is_adopted s view first) _ _ (λ _. checked s (adopt s view first commit log) (adopt_does s view first commit log)) (λ _. rests s [])))
     (λ _. rests s [])
 
-recovery_does : (s : VrState) (from nonce promise : ℕ) → Does s (recovery s from (message.Recovery nonce promise))
+recovery_does : (s : VrState) (from nonce promise : ℕ) → Does s (recovery s from nonce promise)
 recovery_does s from nonce promise =
     either (Does s) (is_other s from) _ _
     (λ _. either (Does s) (is_normal s) _ _
@@ -310,7 +310,7 @@ ends_does s view (Some told) sound =
     let now = record s { responses = [] } in
     after s now (adopt now view 0 told.commit told.log) (cleared_does s []) (adopt_does now view 0 told.commit told.log sound)
 
-response_does : (s : VrState) (from view nonce : ℕ) (f : Option Filled) → Does s (response s from (message.RecoveryResponse view nonce f))
+response_does : (s : VrState) (from view nonce : ℕ) (f : Option Filled) → Does s (response s from view nonce f)
 response_does s from view nonce f =
     let r : Response = record { from = from; view = view; filled = f } in
     let now = responded s r in

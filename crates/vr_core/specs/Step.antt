@@ -21,18 +21,18 @@ use Rattle.vr_core.specs.declared.input.VrInput.TheVariants as vr_input
 
 -- a message from a member
 unfoldable pub on_vr : VrState → ℕ → VrMessage → VrStep
-on_vr s from (message.Prepare view op commit entry) = prepare s from (message.Prepare view op commit entry)
-on_vr s from (message.PrepareOk view op) = prepare_ok s from (message.PrepareOk view op)
-on_vr s from (message.Commit view commit) = commit_told s from (message.Commit view commit)
-on_vr s from (message.StartViewChange view) = start_view_change s from (message.StartViewChange view)
-on_vr s from (message.DoViewChange view normal commit log) = do_view_change s from (message.DoViewChange view normal commit log)
-on_vr s from (message.StartView view first commit log) = start_view s from (message.StartView view first commit log)
-on_vr s from (message.Recovery nonce promise) = recovery s from (message.Recovery nonce promise)
-on_vr s from (message.RecoveryResponse view nonce filled) = response s from (message.RecoveryResponse view nonce filled)
-on_vr s from (message.GetState view op) = get_state s from (message.GetState view op)
-on_vr s from (message.NewState view first commit log) = new_state s from (message.NewState view first commit log)
-on_vr s from (message.Fetch view op) = fetch s from (message.Fetch view op)
-on_vr s from (message.Supply view first log) = supply s from (message.Supply view first log)
+on_vr s from (message.Prepare view op commit entry) = prepare s from view op commit entry
+on_vr s from (message.PrepareOk view op) = prepare_ok s from view op
+on_vr s from (message.Commit view commit) = commit_told s from view commit
+on_vr s from (message.StartViewChange view) = start_view_change s from view
+on_vr s from (message.DoViewChange view normal commit log) = do_view_change s from view normal commit log
+on_vr s from (message.StartView view first commit log) = start_view s from view first commit log
+on_vr s from (message.Recovery nonce promise) = recovery s from nonce promise
+on_vr s from (message.RecoveryResponse view nonce filled) = response s from view nonce filled
+on_vr s from (message.GetState view op) = get_state s from view op
+on_vr s from (message.NewState view first commit log) = new_state s from view first commit log
+on_vr s from (message.Fetch view op) = fetch s from view op
+on_vr s from (message.Supply view first log) = supply s from view first log
 
 abbrev pub vr_step : VrState → VrInput → VrStep
 vr_step s (vr_input.From from what) = on_vr s from what

@@ -63,9 +63,9 @@ impl Replica {
 
     /// The step of an input. What is to be saved and then sent takes the place of what stood there.
     #[inline(always)]
-    pub fn step(&mut self, input: &VrInput, out: &mut VrOut) -> Result<(), AllocError>
+    pub fn step(&mut self, input: VrInput, out: &mut VrOut) -> Result<(), AllocError>
         requires { IsValidState self.old }
-        ensures step { OnOk result (Stepped (vr_step self.old input.now) self.new out.new) }
+        ensures step { OnOk result (Stepped (vr_step self.old input) self.new out.new) }
         ensures valid { OnOk result (IsValidState self.new) }
     {
         out.clear();
@@ -105,6 +105,15 @@ impl Replica {
         ensures { result.now ≡ self.now.log }
     {
         &self.state.log
+    }
+
+    /// Its log, moved out. What else it holds is dropped.
+    pub fn into_log(self) -> Log
+        ensures { result ≡ self.log }
+    {
+        let Replica { state } = self;
+        let VrState { log, .. } = state;
+        log
     }
 
     /// How many entries of the log are committed.

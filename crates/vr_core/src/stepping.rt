@@ -14,41 +14,70 @@ use vr_normal::{on_commit, on_prepare, on_prepare_ok, tick};
 use vr_recovery::{on_get_state, on_new_state, on_recovery, on_response};
 
 /// The step of an input. After an `Err` the state is to be dropped.
-pub(crate) fn take(state: &mut VrState, input: &VrInput, out: &mut VrOut) -> Result<(), AllocError>
+#[inline(always)]
+pub(crate) fn take(state: &mut VrState, input: VrInput, out: &mut VrOut) -> Result<(), AllocError>
     requires { IsValidState state.old }
-    ensures step { OnOk result (Did (vr_step state.old input.now) state.new out.old out.new) }
+    ensures step { OnOk result (Did (vr_step state.old input) state.new out.old out.new) }
     ensures valid { OnOk result (IsValidState state.new) }
 {
     match input {
-        VrInput::From { from, message } => on_message(state, *from, message, out),
-        VrInput::Suspect { view } => suspect(state, *view, out),
+        VrInput::From { from, message } => on_message(state, from, message, out),
+        VrInput::Suspect { view } => suspect(state, view, out),
         VrInput::Tick => tick(state, out),
     }
 }
 
 /// A message of another member.
+#[tactic(auto, unfolding(crate::specs::Step::on_vr))]
 fn on_message(
     state: &mut VrState,
     from: u8,
-    message: &VrMessage,
+    message: VrMessage,
     out: &mut VrOut,
 ) -> Result<(), AllocError>
     requires { IsValidState state.old }
-    ensures step { OnOk result (Did (on_vr state.old from message.now) state.new out.old out.new) }
+    ensures step { OnOk result (Did (on_vr state.old from message) state.new out.old out.new) }
     ensures valid { OnOk result (IsValidState state.new) }
 {
     match message {
-        VrMessage::Prepare { .. } => on_prepare(state, from, message, out),
-        VrMessage::PrepareOk { .. } => on_prepare_ok(state, from, message, out),
-        VrMessage::Commit { .. } => on_commit(state, from, message, out),
-        VrMessage::StartViewChange { .. } => on_start_view_change(state, from, message, out),
-        VrMessage::DoViewChange { .. } => on_do_view_change(state, from, message, out),
-        VrMessage::StartView { .. } => on_start_view(state, from, message, out),
-        VrMessage::Recovery { .. } => on_recovery(state, from, message, out),
-        VrMessage::RecoveryResponse { .. } => on_response(state, from, message, out),
-        VrMessage::GetState { .. } => on_get_state(state, from, message, out),
-        VrMessage::NewState { .. } => on_new_state(state, from, message, out),
-        VrMessage::Fetch { .. } => on_fetch(state, from, message, out),
-        VrMessage::Supply { .. } => on_supply(state, from, message, out),
+        VrMessage::Prepare {
+            view,
+            op,
+            commit,
+            entry,
+        } => on_prepare(state, from, view, op, commit, entry, out),
+        VrMessage::PrepareOk { view, op } => {
+            on_prepare_ok(state, from, view, op);
+            Ok(())
+        }
+        VrMessage::Commit { view, commit } => on_commit(state, from, view, commit, out),
+        VrMessage::StartViewChange { view } => on_start_view_change(state, from, view, out),
+        VrMessage::DoViewChange {
+            view,
+            normal,
+            commit,
+            log,
+        } => on_do_view_change(state, from, view, normal, commit, log, out),
+        VrMessage::StartView {
+            view,
+            first,
+            commit,
+            log,
+        } => on_start_view(state, from, view, first, commit, log, out),
+        VrMessage::Recovery { nonce, promise } => on_recovery(state, from, nonce, promise, out),
+        VrMessage::RecoveryResponse {
+            view,
+            nonce,
+            filled,
+        } => on_response(state, from, view, nonce, filled, out),
+        VrMessage::GetState { view, op } => on_get_state(state, from, view, op, out),
+        VrMessage::NewState {
+            view,
+            first,
+            commit,
+            log,
+        } => on_new_state(state, from, view, first, commit, log, out),
+        VrMessage::Fetch { view, op } => on_fetch(state, from, view, op, out),
+        VrMessage::Supply { view, first, log } => on_supply(state, from, view, first, log, out),
     }
 }

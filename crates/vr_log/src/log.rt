@@ -103,6 +103,19 @@ impl Log {
         &self.entries
     }
 
+    /// Its first entries, so many at most. They are moved.
+    pub fn into_first(self, count: usize) -> Entries
+        ensures { result ≡ take count self }
+    {
+        let Log {
+            entries,
+            tally: _tally,
+        } = self;
+        let mut entries = entries;
+        entries.truncate(count);
+        Entries::from_vec(entries)
+    }
+
     pub fn len(&self) -> usize
         ensures count { result ≡ length self.now }
         ensures small { length self.now ≤ log_entries }

@@ -1,9 +1,6 @@
--- The messages of the normal case (Viewstamped Replication Revisited, 4.1), and what each does. A message
--- of another kind does nothing here.
+-- The messages of the normal case (Viewstamped Replication Revisited, 4.1), and what each does.
 use Rattle.std.specs.Prelude.{ℕ, zero, suc, ◌+◌, Bool, nat_eq, nat_le, ◌&&◌, List, [], ◌∷◌, length, max, count_by, filter, slice_index, slice_set, if◌then◌else◌}
 use Rattle.vr_log.specs.declared.entry.Entry.{Entry}
-use Rattle.vr_log.specs.declared.message.VrMessage.{VrMessage}
-use Rattle.vr_log.specs.declared.message.VrMessage.TheVariants as message
 use Rattle.vr_log.specs.declared.state.VrState.{VrState}
 use Rattle.vr_log.specs.Log.{fits}
 use Rattle.vr_log.specs.Members.{is_primary, is_primary_of, is_other, is_here, is_later, most_failures, others}
@@ -28,18 +25,16 @@ prepares s op commit entry =
     else (if nat_eq op (length s.log + 1) then (if fits s.log entry then acknowledges (appended s entry) commit else quiet s)
     else asks s s.view (length s.log))
 
-abbrev pub prepare : VrState → ℕ → VrMessage → VrStep
-prepare s from (message.Prepare view op commit entry) = from_primary s from view (prepares s op commit entry)
-prepare s from _ = quiet s
+abbrev pub prepare : VrState → ℕ → ℕ → ℕ → ℕ → Entry → VrStep
+prepare s from view op commit entry = from_primary s from view (prepares s op commit entry)
 
 -- COMMIT of this view: the commit number rises, or what lacks is asked for
 abbrev pub commits : VrState → ℕ → VrStep
 commits s commit =
     if nat_le commit (length s.log) then quiet (record s { commit = max s.commit commit }) else asks s s.view (length s.log)
 
-abbrev pub commit_told : VrState → ℕ → VrMessage → VrStep
-commit_told s from (message.Commit view commit) = from_primary s from view (commits s commit)
-commit_told s from _ = quiet s
+abbrev pub commit_told : VrState → ℕ → ℕ → ℕ → VrStep
+commit_told s from view commit = from_primary s from view (commits s commit)
 
 -- how many other members have acknowledged at least this op
 abbrev pub acks : VrState → ℕ → ℕ
@@ -74,7 +69,6 @@ counted s = record s { commit = agreed s }
 abbrev pub is_counted : VrState → ℕ → ℕ → Bool
 is_counted s view op = is_here s view && is_primary s && nat_le op (length s.log)
 
-abbrev pub prepare_ok : VrState → ℕ → VrMessage → VrStep
-prepare_ok s from (message.PrepareOk view op) =
+abbrev pub prepare_ok : VrState → ℕ → ℕ → ℕ → VrStep
+prepare_ok s from view op =
     if is_other s from then (if is_counted s view op then quiet (counted (acked_by s from op)) else quiet s) else quiet s
-prepare_ok s from _ = quiet s

@@ -1,8 +1,7 @@
-//! The steps of the normal case. A message that is of another kind than its call changes nothing. After want of
-//! memory the state is to be dropped.
-ghost use Rattle.std.specs.Prelude.{◌≡◌, ◌<◌, ◌++◌, true, IsTrue, is_ok, OnOk};
+//! The steps of the normal case, each with the fields of its message. After want of memory the state is to be dropped.
+ghost use Rattle.std.specs.Prelude.{◌≡◌, ◌<◌, ◌++◌, true, OnOk};
 ghost use Rattle.vr_log.specs.Log.{fits, may_follow};
-ghost use Rattle.vr_log.specs.Steps.{Did, to_others};
+ghost use Rattle.vr_log.specs.Steps.{Did, quiet, to_others};
 ghost use Rattle.vr_log.specs.declared.message.VrMessage.TheVariants as message;
 ghost use Rattle.vr_log.specs.Valid.{IsValidState};
 ghost use Rattle.vr_normal.specs.Cases.{asks_later, prepares, prepare, commits, commit_told, prepare_ok};
@@ -33,22 +32,23 @@ fn ask_later(state: &VrState, view: u32, out: &mut VrOut) -> Result<(), AllocErr
 }
 
 /// A PREPARE of the view in which this member is normal.
+#[inline(always)]
 fn take_prepare(
     state: &mut VrState,
     op: u64,
     commit: u64,
-    entry: &Entry,
+    entry: Entry,
     out: &mut VrOut,
 ) -> Result<(), AllocError>
     requires { 0 < state.old.controllers }
-    ensures { OnOk result (Did (prepares state.old op commit entry.now) state.new out.old out.new) }
+    ensures { OnOk result (Did (prepares state.old op commit entry) state.new out.old out.new) }
 {
     let len = state.log.len() as u64;
     if op <= len {
         state.acknowledge(commit, out)
     } else if op == len + 1 {
-        if state.log.takes(entry) {
-            state.log.append(entry.copy()?)?;
+        if state.log.takes(&entry) {
+            state.log.append(entry)?;
             state.acknowledge(commit, out)
         } else {
             Ok(())
@@ -59,36 +59,31 @@ fn take_prepare(
 }
 
 /// PREPARE: the primary has an entry.
+#[inline(always)]
 pub fn on_prepare(
     state: &mut VrState,
     from: u8,
-    message: &VrMessage,
+    view: u32,
+    op: u64,
+    commit: u64,
+    entry: Entry,
     out: &mut VrOut,
 ) -> Result<(), AllocError>
     requires { IsValidState state.old }
-    ensures step { OnOk result (Did (prepare state.old from message.now) state.new out.old out.new) }
+    ensures step { OnOk result (Did (prepare state.old from view op commit entry) state.new out.old out.new) }
     ensures valid { OnOk result (IsValidState state.new) }
 {
-    match message {
-        VrMessage::Prepare {
-            view,
-            op,
-            commit,
-            entry,
-        } => {
-            if !(state.is_other(from) && state.is_primary_of(from, *view)) {
-                Ok(())
-            } else if state.is_here(*view) {
-                take_prepare(state, *op, *commit, entry, out)
-            } else {
-                ask_later(state, *view, out)
-            }
-        }
-        _ => Ok(()),
+    if !(state.is_other(from) && state.is_primary_of(from, view)) {
+        Ok(())
+    } else if state.is_here(view) {
+        take_prepare(state, op, commit, entry, out)
+    } else {
+        ask_later(state, view, out)
     }
 }
 
 /// A COMMIT of the view in which this member is normal.
+#[inline(always)]
 fn take_commit(state: &mut VrState, commit: u64, out: &mut VrOut) -> Result<(), AllocError>
     requires { 0 < state.old.controllers }
     ensures { OnOk result (Did (commits state.old commit) state.new out.old out.new) }
@@ -103,53 +98,42 @@ fn take_commit(state: &mut VrState, commit: u64, out: &mut VrOut) -> Result<(), 
 }
 
 /// COMMIT: the primary tells how much is committed.
+#[inline(always)]
 pub fn on_commit(
     state: &mut VrState,
     from: u8,
-    message: &VrMessage,
+    view: u32,
+    commit: u64,
     out: &mut VrOut,
 ) -> Result<(), AllocError>
     requires { IsValidState state.old }
-    ensures step { OnOk result (Did (commit_told state.old from message.now) state.new out.old out.new) }
+    ensures step { OnOk result (Did (commit_told state.old from view commit) state.new out.old out.new) }
     ensures valid { OnOk result (IsValidState state.new) }
 {
-    match message {
-        VrMessage::Commit { view, commit } => {
-            if !(state.is_other(from) && state.is_primary_of(from, *view)) {
-                Ok(())
-            } else if state.is_here(*view) {
-                take_commit(state, *commit, out)
-            } else {
-                ask_later(state, *view, out)
-            }
-        }
-        _ => Ok(()),
+    if !(state.is_other(from) && state.is_primary_of(from, view)) {
+        Ok(())
+    } else if state.is_here(view) {
+        take_commit(state, commit, out)
+    } else {
+        ask_later(state, view, out)
     }
 }
 
-/// PREPAREOK: another member has the log up to an op. It takes no memory.
-pub fn on_prepare_ok(
-    state: &mut VrState,
-    from: u8,
-    message: &VrMessage,
-    out: &mut VrOut,
-) -> Result<(), AllocError>
+/// PREPAREOK: another member has the log up to an op. It sends nothing, and takes no memory.
+#[inline(always)]
+pub fn on_prepare_ok(state: &mut VrState, from: u8, view: u32, op: u64)
     requires { IsValidState state.old }
-    ensures done { IsTrue (is_ok result) }
-    ensures step { Did (prepare_ok state.old from message.now) state.new out.old out.new }
+    ensures step { quiet state.new ≡ prepare_ok state.old from view op }
     ensures valid { IsValidState state.new }
 {
-    if let VrMessage::PrepareOk { view, op } = message {
-        let counts = state.is_other(from)
-            && state.is_here(*view)
-            && state.is_primary()
-            && *op <= state.log.len() as u64;
-        if counts {
-            state.acked.raise(from, *op);
-            state.commit = agreed_op(state);
-        }
+    let counts = state.is_other(from)
+        && state.is_here(view)
+        && state.is_primary()
+        && op <= state.log.len() as u64;
+    if counts {
+        state.acked.raise(from, op);
+        state.commit = agreed_op(state);
     }
-    Ok(())
 }
 
 /// A PREPARE of an entry to each other member, if there is one.

@@ -20,25 +20,15 @@ use Rattle.view_change.proofs.Valid.{adopt_passes, adopt_valid}
 use Rattle.vr_recovery.specs.Cases.{is_longer, is_adopted, lacking, completes, new_state}
 use Rattle.vr_recovery.specs.Recovering.{newest, with_response, greatest_view_told, responded, ending, ends_with, recovers}
 
--- the case of a log that is adopted
-pub adopts_newer : (s u : VrState) (m : VrMessage) (from view first commit : ℕ) (log copied told : List Entry) (old new : VrOut) → is_other s from ≡ true → is_longer s view first log ≡ false → is_adopted s view first ≡ true →
-    m ≡ message.NewState view first commit log → told ≡ copied → copied ≡ log → Did (guarded s (adopt s view first commit told)) u old new → Did (new_state s from m) u old new
-adopts_newer s u m from view first commit log copied told old new other short adopted is a b h =
-    let here : new_state s from (message.NewState view first commit log) ≡ guarded s (adopt s view first commit log) = rw (other, short, adopted) refl in
-    let step : new_state s from m ≡ guarded s (adopt s view first commit told) =
-    ap (λ (x : VrMessage). new_state s from x) is ∙ (here ∙ ap (λ (l : List Entry). guarded s (adopt s view first commit l)) (sym (a ∙ b))) in
-    subst (λ (x : VrStep). Did x u old new) (sym step) h
-
 pub completes_valid : (s : VrState) (first commit : ℕ) (log : List Entry) → IsValidState s → IsValidState (completes s first commit log).state
 completes_valid s first commit log v =
     chosen_by IsValidState (follows s.log (lacking s first log)) _ _ (λ f. acknowledges_valid (record s { log = s.log ++ lacking s first log }) commit (grown_valid s (lacking s first log) v f)) (λ f. v)
 
-pub new_state_valid : (s : VrState) (from : ℕ) (m : VrMessage) → IsValidState s → IsValidState (new_state s from m).state
-new_state_valid s from (message.NewState view first commit log) v =
+pub new_state_valid : (s : VrState) (from view first commit : ℕ) (log : List Entry) → IsValidState s → IsValidState (new_state s from view first commit log).state
+new_state_valid s from view first commit log v =
     either IsValidState (is_other s from) _ _
     (either IsValidState (is_longer s view first log) (completes s first commit log) _ (completes_valid s first commit log v)
     (either IsValidState (is_adopted s view first) (guarded s (adopt s view first commit log)) (quiet s) (adopt_valid s view first commit log v) v)) v
-new_state_valid s from _ v = v
 
 -- of each member one response is kept
 newest_from : (kept r : Response) → kept.from ≡ r.from → (newest kept r).from ≡ kept.from

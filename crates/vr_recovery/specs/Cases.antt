@@ -1,7 +1,6 @@
--- State transfer (Viewstamped Replication Revisited, 5.2). A message of another kind does nothing here.
+-- State transfer (Viewstamped Replication Revisited, 5.2).
 use Rattle.std.specs.Prelude.{ℕ, ◌+◌, ◌-◌, Bool, not, nat_le, nat_lt, ◌&&◌, List, ◌++◌, length, drop, if◌then◌else◌}
 use Rattle.vr_log.specs.declared.entry.Entry.{Entry}
-use Rattle.vr_log.specs.declared.message.VrMessage.{VrMessage}
 use Rattle.vr_log.specs.declared.message.VrMessage.TheVariants as message
 use Rattle.vr_log.specs.declared.state.VrState.{VrState}
 use Rattle.vr_log.specs.Log.{follows}
@@ -14,12 +13,11 @@ use Rattle.view_change.specs.Adopting.{adopt}
 abbrev pub is_answered : VrState → ℕ → ℕ → Bool
 is_answered s view op = is_here s view && nat_le op (length s.log)
 
-abbrev pub get_state : VrState → ℕ → VrMessage → VrStep
-get_state s from (message.GetState view op) =
+abbrev pub get_state : VrState → ℕ → ℕ → ℕ → VrStep
+get_state s from view op =
     if is_other s from
     then (if is_answered s view op then tells s from (message.NewState s.view op s.commit (drop op s.log)) else quiet s)
     else quiet s
-get_state s from _ = quiet s
 
 -- NEWSTATE of this view: it joins this member's log without a gap, and goes on behind it
 abbrev pub is_longer : VrState → ℕ → ℕ → List Entry → Bool
@@ -39,10 +37,9 @@ completes s first commit log =
 abbrev pub is_adopted : VrState → ℕ → ℕ → Bool
 is_adopted s view first = not (is_primary_of s s.me view) && nat_le first s.commit && is_newer s view
 
-abbrev pub new_state : VrState → ℕ → VrMessage → VrStep
-new_state s from (message.NewState view first commit log) =
+abbrev pub new_state : VrState → ℕ → ℕ → ℕ → ℕ → List Entry → VrStep
+new_state s from view first commit log =
     if is_other s from
     then (if is_longer s view first log then completes s first commit log
     else if is_adopted s view first then guarded s (adopt s view first commit log) else quiet s)
     else quiet s
-new_state s from _ = quiet s

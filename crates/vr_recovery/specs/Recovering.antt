@@ -1,8 +1,6 @@
--- Recovery (Viewstamped Replication Revisited, 4.3; the stable pair of a promise and a life is our own rule). A
--- message of another kind does nothing here.
+-- Recovery (Viewstamped Replication Revisited, 4.3; the stable pair of a promise and a life is our own rule).
 use Rattle.std.specs.Prelude.{ℕ, Bool, nat_eq, nat_lt, ◌&&◌, List, [], ◌∷◌, find, Option, Some, None, if◌then◌else◌}
 use Rattle.vr_log.specs.declared.message.Filled.{Filled}
-use Rattle.vr_log.specs.declared.message.VrMessage.{VrMessage}
 use Rattle.vr_log.specs.declared.message.VrMessage.TheVariants as message
 use Rattle.vr_log.specs.declared.state.Response.{Response}
 use Rattle.vr_log.specs.declared.state.Status.TheVariants.{Recovering}
@@ -31,14 +29,13 @@ filled s = if is_primary s then Some (record { commit = s.commit; log = s.log })
 abbrev pub responds : VrState → ℕ → ℕ → VrStep
 responds s to nonce = tells s to (message.RecoveryResponse s.view nonce (filled s))
 
-abbrev pub recovery : VrState → ℕ → VrMessage → VrStep
-recovery s from (message.Recovery nonce promise) =
+abbrev pub recovery : VrState → ℕ → ℕ → ℕ → VrStep
+recovery s from nonce promise =
     if is_other s from
     then (if is_normal s
     then (if nat_lt s.view promise then guarded s (enters s promise) else responds s from nonce)
     else quiet s)
     else quiet s
-recovery s from _ = quiet s
 
 -- of each member the response of the greatest view is kept, and of equal views the first
 abbrev pub newest : Response → Response → Response
@@ -80,10 +77,9 @@ recovers s = ends_with s (greatest_view_told s.responses) (ending s)
 abbrev pub responded : VrState → Response → VrState
 responded s r = record s { responses = with_response s.responses r }
 
-abbrev pub response : VrState → ℕ → VrMessage → VrStep
-response s from (message.RecoveryResponse view nonce filled) =
+abbrev pub response : VrState → ℕ → ℕ → ℕ → Option Filled → VrStep
+response s from view nonce filled =
     if is_other s from
     then (if is_recovering s && nat_eq nonce s.life
     then guarded s (recovers (responded s (record { from = from; view = view; filled = filled }))) else quiet s)
     else quiet s
-response s from _ = quiet s

@@ -1,5 +1,5 @@
-//! How a member comes back with nothing but its stable pair, a promise and a life. A message that is of another kind
-//! than its call changes nothing. After an `Err` the state is to be dropped.
+//! How a member comes back with nothing but its stable pair, a promise and a life. After an `Err` the state is to be
+//! dropped.
 ghost use Rattle.std.specs.Prelude.{◌≡◌, ◌<◌, ◌∷◌, [], Contains, IfOk, OnOk};
 ghost use Rattle.vr_log.specs.Steps.{Did, guarded};
 ghost use Rattle.vr_log.specs.Valid.{IsValidState};
@@ -71,28 +71,24 @@ fn respond(state: &VrState, to: u8, nonce: u64, out: &mut VrOut) -> Result<(), A
 pub fn on_recovery(
     state: &mut VrState,
     from: u8,
-    message: &VrMessage,
+    nonce: u64,
+    promise: u32,
     out: &mut VrOut,
 ) -> Result<(), AllocError>
     requires { IsValidState state.old }
-    ensures step { OnOk result (Did (recovering.recovery state.old from message.now) state.new out.old out.new) }
+    ensures step { OnOk result (Did (recovering.recovery state.old from nonce promise) state.new out.old out.new) }
     ensures valid { OnOk result (IsValidState state.new) }
 {
-    match message {
-        VrMessage::Recovery { nonce, promise } => {
-            if !state.is_other(from) {
-                return Ok(());
-            }
-            if !state.is_normal() {
-                return Ok(());
-            }
-            if state.view < *promise {
-                enter_and_check(state, *promise, out)
-            } else {
-                respond(state, from, *nonce, out)
-            }
-        }
-        _ => Ok(()),
+    if !state.is_other(from) {
+        return Ok(());
+    }
+    if !state.is_normal() {
+        return Ok(());
+    }
+    if state.view < promise {
+        enter_and_check(state, promise, out)
+    } else {
+        respond(state, from, nonce, out)
     }
 }
 
@@ -136,46 +132,28 @@ fn take_response(state: &mut VrState, response: Response, out: &mut VrOut) -> Re
     Ok(())
 }
 
-/// A copy of what a response tells.
-fn copy_filled(filled: &Option<Filled>) -> Result<Option<Filled>, AllocError>
-    ensures { IfOk result (λ copied. copied ≡ filled.now) }
-{
-    filled.clone()
-}
-
 /// RECOVERYRESPONSE: an answer to the question of this life.
 pub fn on_response(
     state: &mut VrState,
     from: u8,
-    message: &VrMessage,
+    view: u32,
+    nonce: u64,
+    filled: Option<Filled>,
     out: &mut VrOut,
 ) -> Result<(), AllocError>
     requires { IsValidState state.old }
-    ensures step { OnOk result (Did (recovering.response state.old from message.now) state.new out.old out.new) }
+    ensures step { OnOk result (Did (recovering.response state.old from view nonce filled) state.new out.old out.new) }
     ensures valid { OnOk result (IsValidState state.new) }
 {
-    match message {
-        VrMessage::RecoveryResponse {
-            view,
-            nonce,
-            filled,
-        } => {
-            if !state.is_other(from) {
-                return Ok(());
-            }
-            if !state.is_recovering() {
-                return Ok(());
-            }
-            if *nonce != state.life {
-                return Ok(());
-            }
-            let response = Response {
-                from,
-                view: *view,
-                filled: copy_filled(filled)?,
-            };
-            take_response(state, response, out)
-        }
-        _ => Ok(()),
+    if !state.is_other(from) {
+        return Ok(());
     }
+    if !state.is_recovering() {
+        return Ok(());
+    }
+    if nonce != state.life {
+        return Ok(());
+    }
+    let response = Response { from, view, filled };
+    take_response(state, response, out)
 }

@@ -1,5 +1,4 @@
-//! How a member tells another what that one lacks of the log. A message that is of another kind than its call changes
-//! nothing. After an `Err` the state is to be dropped.
+//! How a member tells another what that one lacks of the log. After an `Err` the state is to be dropped.
 ghost use Rattle.std.specs.Prelude.{◌≡◌, ◌<◌, ◌≤◌, ◌+◌, length, OnOk};
 ghost use Rattle.vr_log.specs.Steps.{Did};
 ghost use Rattle.vr_log.specs.Valid.{IsValidState};
@@ -7,37 +6,33 @@ ghost use Rattle.vr_recovery.specs.Cases.{get_state, is_longer, is_adopted, comp
 
 use std::alloc::AllocError;
 use view_change::adopt;
-use vr_log::{Entry, VrMessage, VrOut, VrState, copy_entries};
+use vr_log::{Entries, Entry, VrMessage, VrOut, VrState, copy_entries};
 
 /// GETSTATE: a member asks for what follows an op of the log.
 pub fn on_get_state(
     state: &mut VrState,
     from: u8,
-    message: &VrMessage,
+    view: u32,
+    op: u64,
     out: &mut VrOut,
 ) -> Result<(), AllocError>
     requires { IsValidState state.old }
-    ensures step { OnOk result (Did (get_state state.old from message.now) state.new out.old out.new) }
+    ensures step { OnOk result (Did (get_state state.old from view op) state.new out.old out.new) }
     ensures valid { IsValidState state.new }
 {
-    match message {
-        VrMessage::GetState { view, op } => {
-            if !state.is_other(from) {
-                return Ok(());
-            }
-            if !(state.is_here(*view) && *op <= state.log.len() as u64) {
-                return Ok(());
-            }
-            let message = VrMessage::NewState {
-                view: *view,
-                first: *op,
-                commit: state.commit,
-                log: state.log.entries_after(*op as usize)?,
-            };
-            out.tell(from, message)
-        }
-        _ => Ok(()),
+    if !state.is_other(from) {
+        return Ok(());
     }
+    if !(state.is_here(view) && op <= state.log.len() as u64) {
+        return Ok(());
+    }
+    let message = VrMessage::NewState {
+        view,
+        first: op,
+        commit: state.commit,
+        log: state.log.entries_after(op as usize)?,
+    };
+    out.tell(from, message)
 }
 
 /// Whether entries behind an op join the log of this member, and go on behind it.
@@ -85,34 +80,25 @@ fn complete(
 pub fn on_new_state(
     state: &mut VrState,
     from: u8,
-    message: &VrMessage,
+    view: u32,
+    first: u64,
+    commit: u64,
+    log: Entries,
     out: &mut VrOut,
 ) -> Result<(), AllocError>
     requires { IsValidState state.old }
-    ensures step { OnOk result (Did (new_state state.old from message.now) state.new out.old out.new) }
+    ensures step { OnOk result (Did (new_state state.old from view first commit log) state.new out.old out.new) }
     ensures valid { OnOk result (IsValidState state.new) }
 {
-    match message {
-        VrMessage::NewState {
-            view,
-            first,
-            commit,
-            log,
-        } => {
-            if !state.is_other(from) {
-                return Ok(());
-            }
-            let log = log.as_slice();
-            if is_longer(state, *view, *first, log) {
-                return complete(state, *first, *commit, log, out);
-            }
-            if !is_adopted(state, *view, *first) {
-                return Ok(());
-            }
-            let entries = copy_entries(state.log.allocator(), log)?;
-            adopt(state, *view, *first, *commit, entries, out)?;
-            Ok(())
-        }
-        _ => Ok(()),
+    if !state.is_other(from) {
+        return Ok(());
     }
+    if is_longer(state, view, first, log.as_slice()) {
+        return complete(state, first, commit, log.as_slice(), out);
+    }
+    if !is_adopted(state, view, first) {
+        return Ok(());
+    }
+    adopt(state, view, first, commit, log, out)?;
+    Ok(())
 }

@@ -46,6 +46,10 @@ pub on_err : {T E : Type 0} (result : Result T E) (P Q : Type 0) → (P → Q) �
 on_err (Ok x) P Q next p = tt
 on_err (Err e) P Q next p = next p
 
+-- a packet stands at the place that was found
+pub found_there : {B : Type 0} (journal : List (JournalEntry B)) (place : PacketPlace) (o : Option (Packet B)) → IsFound journal (Some place) o → IsSome (packet_at place journal)
+found_there journal place o found = rw (picked journal place o found).stands refl
+
 -- the entry of a loss
 lost_idle : {B : Type 0} (a : Actor) (o : Option (Packet B)) → IsIdle (lost_entry a o) × (actor_of (lost_entry a o) ≡ a)
 lost_idle a None = (tt, refl)
@@ -114,10 +118,6 @@ module _ {B A W : Type 0} (law : AppLaw A) (saving : Saving W) (sealing : Sealin
 
     abbrev draws : Turn
     draws = turn.Draw a choice keep
-
-    -- it stands there
-    pub stands_there : IsSome (packet_at place w.journal)
-    stands_there = rw p.stands refl
 
     is_draw : entry draws ≡ Draw a p.packet.id keep
     is_draw = rw p.is refl

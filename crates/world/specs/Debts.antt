@@ -12,10 +12,19 @@ pub record Debt (B : Type 0) : Type 0 where
   pub actor : Actor
   pub letters : List (Letter B)
 
+-- whose an outbox is
+abbrev pub sender_of : Outbox → Actor
+sender_of (outbox.Controller number letters) = actor.Controller number
+sender_of (outbox.Switch number letters) = actor.Switch number
+
+-- its letters, sealed
+abbrev pub letters_sealed : {B : Type 0} → Sealing B → Outbox → List (Letter B)
+letters_sealed sealing (outbox.Controller number letters) = sealed_letters controller_message sealing letters
+letters_sealed sealing (outbox.Switch number letters) = sealed_letters switch_message sealing letters
+
 -- an outbox as its actor said it, once it is sealed
 abbrev pub sealed_outbox : {B : Type 0} → Sealing B → Outbox → Debt B
-sealed_outbox sealing (outbox.Controller number letters) = record { actor = actor.Controller number; letters = sealed_letters controller_message sealing letters }
-sealed_outbox sealing (outbox.Switch number letters) = record { actor = actor.Switch number; letters = sealed_letters switch_message sealing letters }
+sealed_outbox sealing said = record { actor = sender_of said; letters = letters_sealed sealing said }
 
 -- what is owed, if anything is
 abbrev pub owing : {B : Type 0} → Sealing B → Option Outbox → Option (Debt B)

@@ -1,12 +1,11 @@
 //! What an actor has still to post.
-ghost use Rattle.std.specs.Prelude.{◌≡◌, ◌++◌, true, IfOk, OnOk};
-ghost use Rattle.world.specs.Debts.{has_none, sealed_outbox};
+ghost use Rattle.std.specs.Prelude.{◌≡◌, true};
+ghost use Rattle.world.specs.Debts.{has_none, letters_sealed, sender_of};
 
-use app_core::App;
-use group_controller::{Controller, Mails};
-use journal::{Actor, Mailbag, Said};
+use group_controller::Mails;
+use journal::{Actor, Mailbag, Outgoing, Said};
 use of_switch::{Switch, SwitchSays};
-use players::{Body, Player};
+use players::{Body, Player, seal_mails};
 use std::alloc::AllocError;
 
 /// The outbox of the newest input, as its actor said it, as long as it is not posted. It is sealed as it is posted, so that want
@@ -24,6 +23,16 @@ pub enum Outbox {
 }
 
 impl Outbox {
+    /// Whose it is.
+    pub fn sender(&self) -> Actor
+        ensures { result ≡ sender_of self.now }
+    {
+        match self {
+            Outbox::Controller { number, .. } => Actor::Controller(*number),
+            Outbox::Switch { number, .. } => Actor::Switch(*number),
+        }
+    }
+
     /// Whether it has nothing to post.
     pub fn is_empty(&self) -> bool
         ensures { result ≡ true → has_none self.now ≡ true }
@@ -35,22 +44,15 @@ impl Outbox {
     }
 }
 
-/// Adds the letters of an outbox, sealed, and tells whose they are.
-pub fn seal_outbox<A: App, B: Body>(
-    outbox: &Outbox,
-    bag: &mut Mailbag<B>,
-) -> Result<Actor, AllocError>
-    ensures actor { IfOk result (λ actor. actor ≡ (sealed_outbox B.sealing outbox.now).actor) }
-    ensures letters { OnOk result (bag.new ≡ bag.old ++ (sealed_outbox B.sealing outbox.now).letters) }
-{
-    match outbox {
-        Outbox::Controller { number, letters } => {
-            Controller::<A>::seal::<B>(letters, bag)?;
-            Ok(Actor::Controller(*number))
-        }
-        Outbox::Switch { number, letters } => {
-            Switch::seal::<B>(letters, bag)?;
-            Ok(Actor::Switch(*number))
+impl<B: Body> Outgoing<B> for Outbox {
+    ghost letters = { λ outbox. letters_sealed B.sealing outbox };
+
+    /// Adds its letters, sealed.
+    #[inline(always)]
+    fn add_to(&self, bag: &mut Mailbag<B>) -> Result<(), AllocError> {
+        match self {
+            Outbox::Controller { letters, .. } => seal_mails(bag, letters.as_slice()),
+            Outbox::Switch { letters, .. } => Switch::seal::<B>(letters, bag),
         }
     }
 }

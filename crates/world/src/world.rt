@@ -21,15 +21,16 @@ ghost use Rattle.world.specs.Actors.{ControllerOwes, ControllerRefused, IsServed
 use crate::actors::{
     controller_takes, controllers_of, fits_types, switch_takes, switches_of, takes_part,
 };
-use crate::outbox::{Outbox, seal_outbox};
+use crate::outbox::Outbox;
 use app_core::App;
 use group_controller::{Controller, ControllerInput};
-use journal::{Actor, Head, Local, Mailbag, PacketPlace, Stable, Stop, Turn, Wire};
+use journal::{Actor, Head, Local, PacketPlace, Stable, Stop, Turn, Wire};
 use of_switch::{Switch, SwitchInput};
 use of_types::Setup;
 use players::{Body, Player, heard};
 use std::alloc::{AllocError, Global};
 use std::marker::Model;
+use std::mem::replace;
 
 /// A run so far: what its actors are, what is in flight, and what the one of the newest input has still to post. A turn that finds
 /// no memory is a crash of its controller and nothing at a switch, and the run goes on.
@@ -45,8 +46,6 @@ pub struct World<B: Body, A> {
     switches: Vec<Switch>,
     /// What the actor of the newest input has still to post.
     outbox: Option<Outbox>,
-    /// Room for what is posted, sealed.
-    sealed: Mailbag<B>,
 }
 
 impl<B: Body, A> Model for World<B, A> {
@@ -81,7 +80,6 @@ impl<B: Body, A: App> World<B, A> {
             controllers,
             switches,
             outbox: None,
-            sealed: Mailbag::new(alloc),
         })
     }
 
@@ -104,7 +102,6 @@ impl<B: Body, A: App> World<B, A> {
             controllers,
             switches,
             outbox: None,
-            sealed: Mailbag::new(alloc),
         }
     }
 
@@ -142,10 +139,8 @@ impl<B: Body, A: App> World<B, A> {
             controllers,
             switches,
             outbox,
-            sealed,
         } = self;
         drop(outbox);
-        drop(sealed);
         (setup, wire, controllers, switches)
     }
 
@@ -237,12 +232,22 @@ impl<B: Body, A: App> World<B, A> {
             self.outbox = None;
             return Ok(());
         }
-        self.sealed.clear();
-        let actor = seal_outbox::<A, B>(outbox, &mut self.sealed)?;
-        self.wire.post(actor, &self.sealed)?;
+        self.wire.post(outbox.sender(), outbox)?;
         self.wire.lawful();
-        self.outbox = None;
+        self.settle();
         Ok(())
+    }
+
+    /// What was owed is posted. A controller has the memory of its letters back.
+    #[inline(always)]
+    fn settle(&mut self)
+        ensures { self.new ≡ record self.old { owed = None } }
+    {
+        if let Some(Outbox::Controller { number, letters }) = replace(&mut self.outbox, None)
+            && let Some(controller) = self.controllers.get_mut(number as usize)
+        {
+            controller.reuse(letters);
+        }
     }
 
     /// The packet of a choice, if one waits for the actor. It goes on waiting.
@@ -341,8 +346,9 @@ impl<B: Body, A: App> World<B, A> {
         }
     }
 
-    /// What the packet at a place is for the actor that draws it. It is read before the entry is written: where that finds no memory,
-    /// nothing has changed.
+    /// What the packet at a place, which is that of a choice, is for the actor that draws it. It is read before the entry is
+    /// written: where that finds no memory, nothing has changed.
+    #[inline(always)]
     fn draw_from<P: Player>(
         &mut self,
         place: PacketPlace,
@@ -350,7 +356,7 @@ impl<B: Body, A: App> World<B, A> {
         choice: u64,
         keep: bool,
     ) -> Result<P::Input, AllocError>
-        requires { IsSome (packet_at place self.old.journal) }
+        requires { IsFound self.old.journal (Some place) (pick actor choice (past self.old.journal)) }
         ensures heard { IfSome (packet_at place self.old.journal) (λ packet. IfOk result
             (λ input. input ≡ P.hears place.from (B.sealing.spelled (way_of place.from place.to) packet.body))) }
         ensures enters { OnOk result (self.new ≡ record self.old { journal = taken (turn.Draw actor choice keep) self.old.journal }) }
@@ -358,7 +364,7 @@ impl<B: Body, A: App> World<B, A> {
         ensures wants { OnErr result (self.new ≡ self.old) }
     {
         let input = self.hear::<P>(place)?;
-        let entered = self.wire.take_draw(actor, choice, keep);
+        let entered = self.wire.take_draw(place, actor, choice, keep);
         self.wire.lawful();
         entered?;
         Ok(input)
@@ -389,6 +395,29 @@ impl<B: Body, A: App> World<B, A> {
                 keep,
             });
         };
+        self.draw_place(stables, place, actor, choice, keep)
+    }
+
+    /// An actor draws the packet at a place, which is that of a choice.
+    #[inline(never)]
+    fn draw_place<W: Stable>(
+        &mut self,
+        stables: &mut [W],
+        place: PacketPlace,
+        actor: Actor,
+        choice: u64,
+        keep: bool,
+    ) -> Result<(), AllocError>
+        requires rests { self.old.owed ≡ None }
+        requires holds { (kinds : List ℕ) × Holds A.law B.sealing self.old kinds }
+        requires pairs { PairsStand W.saving stables.old self.old.controllers }
+        requires named { IsActor self.old.setup actor }
+        requires found { IsFound self.old.journal (Some place) (pick actor choice (past self.old.journal)) }
+        ensures steps { OnOk result (Steps A.law W.saving B.sealing (turn.Draw actor choice keep)
+            self.old stables.old self.new stables.new) }
+        ensures stops { OnErr result (StepStops A.law W.saving B.sealing (turn.Draw actor choice keep)
+            self.old stables.old self.new stables.new) }
+    {
         match actor {
             Actor::Controller(number) => {
                 let input = self.draw_from::<Controller<A>>(place, actor, choice, keep)?;
@@ -406,20 +435,19 @@ impl<B: Body, A: App> World<B, A> {
         &mut self,
         stables: &mut [W],
         actor: Actor,
-        input: &Local,
+        input: Local,
     ) -> Result<(), AllocError>
         requires rests { self.old.owed ≡ None }
         requires holds { (kinds : List ℕ) × Holds A.law B.sealing self.old kinds }
         requires pairs { PairsStand W.saving stables.old self.old.controllers }
         requires named { IsActor self.old.setup actor }
-        ensures steps { OnOk result (Steps A.law W.saving B.sealing (turn.Local actor input.now)
+        ensures steps { OnOk result (Steps A.law W.saving B.sealing (turn.Local actor input)
             self.old stables.old self.new stables.new) }
-        ensures stops { OnErr result (StepStops A.law W.saving B.sealing (turn.Local actor input.now)
+        ensures stops { OnErr result (StepStops A.law W.saving B.sealing (turn.Local actor input)
             self.old stables.old self.new stables.new) }
     {
-        fits_types(input);
+        fits_types(&input);
         let taken = input.copy()?;
-        let input = input.copy()?;
         self.enter(Turn::Local { actor, input })?;
         match actor {
             Actor::Controller(number) => {
@@ -430,24 +458,24 @@ impl<B: Body, A: App> World<B, A> {
     }
 
     /// An actor takes a step.
-    fn step<W: Stable>(&mut self, stables: &mut [W], turn: &Turn) -> Result<(), AllocError>
+    fn step<W: Stable>(&mut self, stables: &mut [W], turn: Turn) -> Result<(), AllocError>
         requires rests { self.old.owed ≡ None }
         requires holds { (kinds : List ℕ) × Holds A.law B.sealing self.old kinds }
         requires pairs { PairsStand W.saving stables.old self.old.controllers }
-        requires named { IsActor self.old.setup (turn_actor turn.now) }
+        requires named { IsActor self.old.setup (turn_actor turn) }
         ensures steps { OnOk result
-            (Steps A.law W.saving B.sealing turn.now self.old stables.old self.new stables.new) }
+            (Steps A.law W.saving B.sealing turn self.old stables.old self.new stables.new) }
         ensures stops { OnErr result
-            (StepStops A.law W.saving B.sealing turn.now self.old stables.old self.new stables.new) }
+            (StepStops A.law W.saving B.sealing turn self.old stables.old self.new stables.new) }
     {
         match turn {
             Turn::Draw {
                 actor,
                 choice,
                 keep,
-            } => self.draw(stables, *actor, *choice, *keep),
-            Turn::Lose { actor, choice } => self.enter_loss(*actor, *choice),
-            Turn::Local { actor, input } => self.local(stables, *actor, input),
+            } => self.draw(stables, actor, choice, keep),
+            Turn::Lose { actor, choice } => self.enter_loss(actor, choice),
+            Turn::Local { actor, input } => self.local(stables, actor, input),
         }
     }
 
@@ -462,11 +490,43 @@ impl<B: Body, A: App> World<B, A> {
         ensures keeps { Keeps A.law W.saving B.sealing self.old stables.old self.new stables.new }
         ensures stops { IfErr result (TurnStops B.sealing.size turn.now self.old self.new) }
     {
+        let turn = turn.copy()?;
+        self.take(stables, turn)
+    }
+
+    /// The same with a turn of its own: what it brings moves into the journal.
+    pub fn take<W: Stable>(&mut self, stables: &mut [W], turn: Turn) -> Result<(), Stop>
+        requires holds { (kinds : List ℕ) × Holds A.law B.sealing self.old kinds }
+        requires pairs { PairsStand W.saving stables.old self.old.controllers }
+        requires named { IsActor self.old.setup (turn_actor turn) }
+        ensures applies { OnOk result (Applies B.sealing.size turn self.old self.new) }
+        ensures keeps { Keeps A.law W.saving B.sealing self.old stables.old self.new stables.new }
+        ensures stops { IfErr result (TurnStops B.sealing.size turn self.old self.new) }
+    {
         // (Only a turn that found no memory left something owed.)
         if self.owes() {
             self.post_outbox()?;
         }
         self.step(stables, turn)?;
+        self.post_owed()
+    }
+
+    /// Does the turn in which the packet of the lowest number is drawn, whose place this is. Nothing is owed.
+    pub fn draw_first<W: Stable>(
+        &mut self,
+        stables: &mut [W],
+        place: PacketPlace,
+    ) -> Result<(), Stop>
+        requires rests { self.old.owed ≡ None }
+        requires holds { (kinds : List ℕ) × Holds A.law B.sealing self.old kinds }
+        requires pairs { PairsStand W.saving stables.old self.old.controllers }
+        requires named { IsActor self.old.setup place.to }
+        requires found { IsFound self.old.journal (Some place) (pick place.to 0 (past self.old.journal)) }
+        ensures applies { OnOk result (Applies B.sealing.size (turn.Draw place.to 0 false) self.old self.new) }
+        ensures keeps { Keeps A.law W.saving B.sealing self.old stables.old self.new stables.new }
+        ensures stops { IfErr result (TurnStops B.sealing.size (turn.Draw place.to 0 false) self.old self.new) }
+    {
+        self.draw_place(stables, place, place.to, 0, false)?;
         self.post_owed()
     }
 }

@@ -64,10 +64,6 @@ told_by w primary steps script = record {
   closing = count_turns (drop script w.journal);
 }
 
--- the same without the journal
-abbrev pub bare_record : {A : Type 0} → Worlding (List ℕ) A → ℕ → ℕ → ℕ → Record
-bare_record w primary steps script = record (told_by w primary steps script) { journal = [] }
-
 -- a record tells of this journal, with so many steps of a script and this closing by a primary: its setup, each entry, what
 -- the primary has committed, each switch as the journal leaves it, and how many turns there were
 pub record Shows (scene : Scene (List ℕ)) (results : List (List SaveResult)) (primary steps : ℕ) (closing journal : List (JournalEntry (List ℕ))) (told : Record) : Type 0 where

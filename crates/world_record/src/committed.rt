@@ -1,12 +1,12 @@
 //! What a controller has committed.
-ghost use Rattle.std.specs.Prelude.{◌≡◌, length, IfOk};
+ghost use Rattle.std.specs.Prelude.{◌≡◌, length};
 ghost use Rattle.group_controller.specs.Turns.{state_of};
 ghost use Rattle.run_spec.specs.Committed.{kept_of};
 
 use app_core::App;
 use group_controller::Controller;
-use std::alloc::{AllocError, Global};
-use vr_log::{Entries, append_entries};
+use std::alloc::Global;
+use vr_log::Entries;
 use world::takes_part;
 
 /// How many entries a controller that takes part has committed. One that doesn't has none.
@@ -22,22 +22,13 @@ pub fn count_committed<A: App>(controller: &Controller<A>) -> u64
     committed.min(log.as_slice().len() as u64)
 }
 
-/// What a controller that takes part has committed. One that doesn't has nothing.
-pub fn committed_log<A: App>(
-    alloc: Global,
-    controller: &Controller<A>,
-) -> Result<Entries, AllocError>
-    ensures { IfOk result (λ log. log ≡ kept_of (state_of controller.now)) }
+/// What a controller that takes part has committed, moved out of it. One that doesn't has nothing.
+pub fn into_committed<A: App>(alloc: Global, controller: Controller<A>) -> Entries
+    ensures { result ≡ kept_of (state_of controller) }
 {
-    if !takes_part(controller) {
-        return Ok(Entries::new(alloc));
+    let committed = count_committed(&controller);
+    match controller.into_log() {
+        Some(log) => log.into_first(committed as usize),
+        None => Entries::new(alloc),
     }
-    let (Some(committed), Some(log)) = (controller.committed(), controller.log()) else {
-        return Ok(Entries::new(alloc));
-    };
-    let log = log.as_slice();
-    let log = &log[..log.len().min(committed as usize)];
-    let mut copied = Entries::from_vec(Vec::with_capacity(alloc, log.len())?);
-    append_entries(&mut copied, log)?;
-    Ok(copied)
 }

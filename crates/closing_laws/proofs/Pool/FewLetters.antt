@@ -139,7 +139,7 @@ from_few : (s : VrState) (from : ℕ) (m : VrMessage) → IsFew s.controllers (o
 unfolding on_vr
 from_few s from (message.Prepare view op commit entry) = few_of_one s.controllers (from_primary s from view (prepares s op commit entry)) (from_primary_one s from view (prepares s op commit entry) (prepares_one s op commit entry))
 from_few s from (message.PrepareOk view op) =
-    few_of_one s.controllers (prepare_ok s from (message.PrepareOk view op))
+    few_of_one s.controllers (prepare_ok s from view op)
     (one_of (is_other s from) (if is_counted s view op then quiet (counted (acked_by s from op)) else quiet s) (quiet s) (one_of (is_counted s view op) (quiet (counted (acked_by s from op))) (quiet s) (omega arith) (omega arith)) (omega arith))
 from_few s from (message.Commit view commit) =
     few_of_one s.controllers (from_primary s from view (commits s commit)) (from_primary_one s from view (commits s commit) (one_of (nat_le commit (length s.log)) (quiet (record s { commit = max s.commit commit })) (asks s s.view (length s.log)) (omega arith) (omega arith)))
@@ -173,7 +173,7 @@ from_few s from (message.DoViewChange view normal commit log) =
         by_test true = let few = check_few t in omega (arith, few, size)
         by_test false = let few = check_few (record t { collected = t.collected ++ c ∷ [] }) in omega (arith, few, size)
 from_few s from (message.StartView view first commit log) =
-    few_of_one s.controllers (start_view s from (message.StartView view first commit log))
+    few_of_one s.controllers (start_view s from view first commit log)
     (one_of (is_other s from) (if is_primary_of s from view && is_newer s view then guarded s (adopt s view first commit log) else quiet s) (quiet s)
     (one_of (is_primary_of s from view && is_newer s view) (guarded s (adopt s view first commit log)) (quiet s) (guarded_one s (adopt s view first commit log) (adopt_one s view first commit log)) (omega arith)) (omega arith))
 from_few s from (message.Recovery nonce promise) =
@@ -184,22 +184,22 @@ from_few s from (message.Recovery nonce promise) =
     (omega arith))
     (omega arith)
 from_few s from (message.RecoveryResponse view nonce filled) =
-    few_of_one s.controllers (response s from (message.RecoveryResponse view nonce filled))
+    few_of_one s.controllers (response s from view nonce filled)
     (one_of (is_other s from) (if is_recovering s && nat_eq nonce s.life then guarded s (recovers (responded s (record { from = from; view = view; filled = filled }))) else quiet s) (quiet s)
     (one_of (is_recovering s && nat_eq nonce s.life) (guarded s (recovers (responded s (record { from = from; view = view; filled = filled })))) (quiet s)
     (guarded_one s (recovers (responded s (record { from = from; view = view; filled = filled }))) (recovers_one (responded s (record { from = from; view = view; filled = filled })))) (omega arith)) (omega arith))
 from_few s from (message.GetState view op) =
-    few_of_one s.controllers (get_state s from (message.GetState view op))
+    few_of_one s.controllers (get_state s from view op)
     (one_of (is_other s from) (if is_answered s view op then tells s from (message.NewState s.view op s.commit (drop op s.log)) else quiet s) (quiet s) (one_of (is_answered s view op) (tells s from (message.NewState s.view op s.commit (drop op s.log))) (quiet s) (omega arith) (omega arith)) (omega arith))
 from_few s from (message.NewState view first commit log) =
-    few_of_one s.controllers (new_state s from (message.NewState view first commit log))
+    few_of_one s.controllers (new_state s from view first commit log)
     (one_of (is_other s from) (if is_longer s view first log then completes s first commit log else if is_adopted s view first then guarded s (adopt s view first commit log) else quiet s) (quiet s)
     (one_of (is_longer s view first log) (completes s first commit log) (if is_adopted s view first then guarded s (adopt s view first commit log) else quiet s)
     (one_of (follows s.log (lacking s first log)) (acknowledges (record s { log = s.log ++ lacking s first log }) commit) (quiet s) (omega arith) (omega arith))
     (one_of (is_adopted s view first) (guarded s (adopt s view first commit log)) (quiet s) (guarded_one s (adopt s view first commit log) (adopt_one s view first commit log)) (omega arith)))
     (omega arith))
 from_few s from (message.Fetch view op) =
-    few_of_one s.controllers (fetch s from (message.Fetch view op))
+    few_of_one s.controllers (fetch s from view op)
     (one_of (is_other s from) (if is_change s view && nat_le op s.commit then tells s from (message.Supply s.view op (drop op (take s.commit s.log))) else quiet s) (quiet s)
     (one_of (is_change s view && nat_le op s.commit) (tells s from (message.Supply s.view op (drop op (take s.commit s.log)))) (quiet s) (omega arith) (omega arith)) (omega arith))
 from_few s from (message.Supply view first log) =

@@ -146,10 +146,10 @@ module _ (x : VrInput) (P : VrState → List VrLetter → Type 0)
       (λ _. cond_both (is_here s view) _ _ (Does s) (λ here. go (here_normal s view here)) (λ _. later_does s view))
       (λ _. rests s))
 
-  prepare_does : (s : VrState) (from view op commit : ℕ) (entry : Entry) → x ≡ vr_input.From from (message.Prepare view op commit entry) → Does s (prepare s from (message.Prepare view op commit entry))
+  prepare_does : (s : VrState) (from view op commit : ℕ) (entry : Entry) → x ≡ vr_input.From from (message.Prepare view op commit entry) → Does s (prepare s from view op commit entry)
   prepare_does s from view op commit entry is = of_primary s from view (prepares s op commit entry) (λ normal. prepares_does s from view op commit entry normal is)
 
-  commit_does : (s : VrState) (from view commit : ℕ) → Does s (commit_told s from (message.Commit view commit))
+  commit_does : (s : VrState) (from view commit : ℕ) → Does s (commit_told s from view commit)
   commit_does s from view commit =
       of_primary s from view (commits s commit) (λ normal. cond_both (nat_le commit (length s.log)) _ _ (Does s)
       (λ low. let l = leb-true commit (length s.log) low in lands s _ (Commits (max s.commit commit) normal (omega arith) (omega arith) refl))
@@ -158,7 +158,7 @@ module _ (x : VrInput) (P : VrState → List VrLetter → Type 0)
   agreed_within : (s : VrState) → (s.commit ≤ agreed s) × (agreed s ≤ max s.commit (length s.log))
   agreed_within s = (greatest_least s.commit (filter (is_agreed s) (ops (length s.log))), greatest_most (is_agreed s) s.commit (length s.log))
 
-  ok_does : (s : VrState) (from view op : ℕ) → Does s (prepare_ok s from (message.PrepareOk view op))
+  ok_does : (s : VrState) (from view op : ℕ) → Does s (prepare_ok s from view op)
   ok_does s from view op =
       of_other s from _ (λ _. cond_both (is_counted s view op) _ _ (Does s)
       (λ ok.
@@ -223,7 +223,7 @@ module _ (x : VrInput) (P : VrState → List VrLetter → Type 0)
       (λ _. checked s (check (voted s from)) (λ sound. moved s (voted s from) (check (voted s from)) (Tallies _ s.sent s.acked refl) (check_does (voted s from) sound)))
       (λ _. cond_both (leads s) _ _ (Does s) (λ _. said s _ (one_said s _ (λ l e. TellsStart from e))) (λ _. rests s))
 
-  change_does : (s : VrState) (from view : ℕ) → x ≡ vr_input.From from (message.StartViewChange view) → Does s (start_view_change s from (message.StartViewChange view))
+  change_does : (s : VrState) (from view : ℕ) → x ≡ vr_input.From from (message.StartViewChange view) → Does s (start_view_change s from view)
   change_does s from view is =
       of_other s from _ (λ _. cond_both (is_later s view) _ _ (Does s)
       (λ later. checked s (then_step (enter s view) (λ next. check (voted next from))) (λ sound.
@@ -247,7 +247,7 @@ module _ (x : VrInput) (P : VrState → List VrLetter → Type 0)
       (λ _. checked s (check (collects s c)) (collects_does s view c other is))
       (λ _. rests s))
 
-  log_does : (s : VrState) (from view normal commit : ℕ) (log : List Entry) → x ≡ vr_input.From from (message.DoViewChange view normal commit log) → Does s (do_view_change s from (message.DoViewChange view normal commit log))
+  log_does : (s : VrState) (from view normal commit : ℕ) (log : List Entry) → x ≡ vr_input.From from (message.DoViewChange view normal commit log) → Does s (do_view_change s from view normal commit log)
   log_does s from view normal commit log is =
       of_other s from _ (λ other. cond_both (is_primary_of s s.me view) _ _ (Does s) (λ _. collect_does s view _ other is) (λ _. rests s))
 
@@ -263,19 +263,19 @@ module _ (x : VrInput) (P : VrState → List VrLetter → Type 0)
       (λ low sound. let l = ltb-false s.commit first low in
       lands_said s (adopted_log s view first commit log) (adopt_letters (adopted_log s view first commit log) commit) (Adopts view first commit log shows newer (omega arith) sound refl) (adopt_said (adopted_log s view first commit log) commit))
 
-  view_does : (s : VrState) (from view first commit : ℕ) (log : List Entry) → x ≡ vr_input.From from (message.StartView view first commit log) → Does s (start_view s from (message.StartView view first commit log))
+  view_does : (s : VrState) (from view first commit : ℕ) (log : List Entry) → x ≡ vr_input.From from (message.StartView view first commit log) → Does s (start_view s from view first commit log)
   view_does s from view first commit log is =
       of_other s from _ (λ _. cond_both (is_primary_of s from view && is_newer s view) _ _ (Does s)
       (λ ok. checked s (adopt s view first commit log) (adopt_does s view first commit log (Starting from is) (and_parts (is_primary_of s from view) (is_newer s view) ok).1))
       (λ _. rests s))
 
-  fetch_does : (s : VrState) (from view op : ℕ) → Does s (fetch s from (message.Fetch view op))
+  fetch_does : (s : VrState) (from view op : ℕ) → Does s (fetch s from view op)
   fetch_does s from view op =
       of_other s from _ (λ _. cond_both (is_change s view && nat_le op s.commit) _ _ (Does s)
       (λ ok. said s _ (one_said s _ (λ l e. TellsFront from op (leb-true op s.commit (and_parts (is_change s view) (nat_le op s.commit) ok).1) e)))
       (λ _. rests s))
 
-  supply_does : (s : VrState) (from view first : ℕ) (log : List Entry) → x ≡ vr_input.From from (message.Supply view first log) → Does s (supply s from (message.Supply view first log))
+  supply_does : (s : VrState) (from view first : ℕ) (log : List Entry) → x ≡ vr_input.From from (message.Supply view first log) → Does s (supply s from view first log)
   supply_does s from view first log is =
       of_other s from _ (λ _. cond_both (is_message_wanted s view first log) _ _ (Does s)
       (λ ok.
@@ -285,13 +285,13 @@ module _ (x : VrInput) (P : VrState → List VrLetter → Type 0)
       (λ _. rests s))
 
   -- state transfer and recovery
-  get_does : (s : VrState) (from view op : ℕ) → Does s (get_state s from (message.GetState view op))
+  get_does : (s : VrState) (from view op : ℕ) → Does s (get_state s from view op)
   get_does s from view op =
       of_other s from _ (λ _. cond_both (is_answered s view op) _ _ (Does s)
       (λ ok. said s _ (one_said s _ (λ l e. TellsLog from op (leb-true op (length s.log) (and_parts (is_here s view) (nat_le op (length s.log)) ok).1) e)))
       (λ _. rests s))
 
-  new_does : (s : VrState) (from view first commit : ℕ) (log : List Entry) → x ≡ vr_input.From from (message.NewState view first commit log) → Does s (new_state s from (message.NewState view first commit log))
+  new_does : (s : VrState) (from view first commit : ℕ) (log : List Entry) → x ≡ vr_input.From from (message.NewState view first commit log) → Does s (new_state s from view first commit log)
   new_does s from view first commit log is =
       of_other s from _ (λ _. cond_both (is_longer s view first log) _ _ (Does s)
       (λ ok.
@@ -306,7 +306,7 @@ module _ (x : VrInput) (P : VrState → List VrLetter → Type 0)
       checked s (adopt s view first commit log) (adopt_does s view first commit log (Standing from is) newer))
       (λ _. rests s)))
 
-  recovery_does : (s : VrState) (from nonce promise : ℕ) → x ≡ vr_input.From from (message.Recovery nonce promise) → Does s (recovery s from (message.Recovery nonce promise))
+  recovery_does : (s : VrState) (from nonce promise : ℕ) → x ≡ vr_input.From from (message.Recovery nonce promise) → Does s (recovery s from nonce promise)
   recovery_does s from nonce promise is =
       of_other s from _ (λ _. cond_both (is_normal s) _ _ (Does s)
       (λ _. cond_both (nat_lt s.view promise) _ _ (Does s)
@@ -327,7 +327,7 @@ module _ (x : VrInput) (P : VrState → List VrLetter → Type 0)
       lands_said s (adopted_log bare view 0 told.commit told.log) (adopt_letters (adopted_log bare view 0 told.commit told.log) told.commit) (Recovers view r.r told r.among r.view_is r.filled_is off sound refl)
       (adopt_said (adopted_log bare view 0 told.commit told.log) told.commit))
 
-  response_does : (s : VrState) (from view nonce : ℕ) (f : Option Filled) → x ≡ vr_input.From from (message.RecoveryResponse view nonce f) → Does s (response s from (message.RecoveryResponse view nonce f))
+  response_does : (s : VrState) (from view nonce : ℕ) (f : Option Filled) → x ≡ vr_input.From from (message.RecoveryResponse view nonce f) → Does s (response s from view nonce f)
   response_does s from view nonce f is =
       of_other s from _ (λ _. cond_both (is_recovering s && nat_eq nonce s.life) _ _ (Does s)
       (λ ok.

@@ -149,7 +149,7 @@ module _ {g : Group Entry} {h h' : History Entry} {c : ℕ} {s : VrState} (gr : 
       (λ ok. goes_tells gr i b at fine from (message.StartView s.view s.base s.commit (drop s.base s.log)) (λ a q. refl) (own_news (good_at i b at) s.base (normal_of s.status (and_parts (member.is_normal s) (member.is_primary s) ok).0)))
       (λ ok. goes_quiet gr i b at fine))
 
-  pub goes_start_view_change : (from view : ℕ) → IsMemberTurn g h h' c (change.start_view_change s from (message.StartViewChange view))
+  pub goes_start_view_change : (from view : ℕ) → IsMemberTurn g h h' c (change.start_view_change s from view)
   goes_start_view_change from view = goes_other gr i b at fine from _ (λ other. cond_both (member.is_later s view) _ _ (IsMemberTurn g h h' c)
       (λ ok. goes_guarded gr i b at fine (steps.then_step (entering.enter s view) (λ next. entering.check (entering.voted next from))) (goes_check gr o i b (walked_voted gr i b at fine (entering.enter s view) from (walked_enter gr i b at fine view ok))))
       (λ ok. cond_both (nat_eq view s.view) _ _ (IsMemberTurn g h h' c) (λ same. goes_vote_here from) (λ same. goes_quiet gr i b at fine)))
@@ -170,7 +170,7 @@ module _ {g : Group Entry} {h h' : History Entry} {c : ℕ} {s : VrState} (gr : 
       (λ ok. goes_quiet gr i b at fine))
 
   pub goes_do_view_change : (from view normal commit : ℕ) (log : List Entry) → IsIn (abstract_letter from c (core.DoViewChange view normal commit log)) h.sent
-      → IsMemberTurn g h h' c (change.do_view_change s from (message.DoViewChange view normal commit log))
+      → IsMemberTurn g h h' c (change.do_view_change s from view normal commit log)
   goes_do_view_change from view normal commit log sent = goes_other gr i b at fine from _ (λ other.
       let l = other_below s from other in
       let small : from < size g = omega (arith, fine.controllers) in
@@ -178,7 +178,7 @@ module _ {g : Group Entry} {h h' : History Entry} {c : ℕ} {s : VrState} (gr : 
       (λ primary. goes_collect from view normal commit log (primary_is fine view primary) small sent)
       (λ primary. goes_quiet gr i b at fine))
 
-  pub goes_supply : (from view first : ℕ) (log : List Entry) → IsIn (abstract_letter from c (core.Supply view first log)) h.sent → IsMemberTurn g h h' c (change.supply s from (message.Supply view first log))
+  pub goes_supply : (from view first : ℕ) (log : List Entry) → IsIn (abstract_letter from c (core.Supply view first log)) h.sent → IsMemberTurn g h h' c (change.supply s from view first log)
   goes_supply from view first log sent = goes_other gr i b at fine from _ (λ other. cond_both (change.is_message_wanted s view first log) _ _ (IsMemberTurn g h h' c)
       (λ ok.
       let x = and_parts (change.is_change s view && member.is_primary s && nat_le first s.commit) (nat_lt (length (choosing.front s)) (first + length log)) ok in
@@ -190,7 +190,7 @@ module _ {g : Group Entry} {h h' : History Entry} {c : ℕ} {s : VrState} (gr : 
       goes_guarded gr i b at fine (entering.check kept) (goes_check gr o i b {st = steps.quiet kept} (record { walk = walk_stock gr i b (walk_at i at) from view first log n l sent; status = n; me = fine.me; controllers = fine.controllers })))
       (λ ok. goes_quiet gr i b at fine))
 
-  pub goes_recovery : (from nonce promise : ℕ) → IsIn (abstract_letter from c (core.Recovery nonce promise)) h.sent → IsMemberTurn g h h' c (recovering.recovery s from (message.Recovery nonce promise))
+  pub goes_recovery : (from nonce promise : ℕ) → IsIn (abstract_letter from c (core.Recovery nonce promise)) h.sent → IsMemberTurn g h h' c (recovering.recovery s from nonce promise)
   goes_recovery from nonce promise sent = goes_other gr i b at fine from _ (λ other. cond_both (member.is_normal s) _ _ (IsMemberTurn g h h' c)
       (λ ok.
       let n = normal_of s.status ok in
@@ -234,7 +234,7 @@ module _ {g : Group Entry} {h h' : History Entry} {c : ℕ} {s : VrState} (gr : 
       (λ many. goes_ends rs w n top (member.primary_of t top) (leb-true s.promise top (and_parts (nat_lt (member.most_failures t) (length rs)) (nat_le s.promise top) many).1) (recovering.primary_log t top) refl)
       (λ few u tr. turn_keep gr i b w n (resembles_self (member_state_of t)) u tr)
 
-  pub goes_response : (from view nonce : ℕ) (filled : Option Filled) → IsIn (abstract_letter from c (core.RecoveryResponse view nonce (answer_of filled))) h.sent → IsMemberTurn g h h' c (recovering.response s from (message.RecoveryResponse view nonce filled))
+  pub goes_response : (from view nonce : ℕ) (filled : Option Filled) → IsIn (abstract_letter from c (core.RecoveryResponse view nonce (answer_of filled))) h.sent → IsMemberTurn g h h' c (recovering.response s from view nonce filled)
   goes_response from view nonce filled sent = goes_other gr i b at fine from _ (λ other. cond_both (member.is_recovering s && nat_eq nonce s.life) _ _ (IsMemberTurn g h h' c)
       (λ ok.
       let x = and_parts (member.is_recovering s) (nat_eq nonce s.life) ok in

@@ -147,24 +147,24 @@ module _ (s : VrState) where
   primary_keeps : (from view : ℕ) (st : VrStep) → KeepsMember s st → KeepsMember s (normal_case.from_primary s from view st)
   primary_keeps from view st w = other_keeps from _ (cond_both (member.is_primary_of s from view) _ _ (KeepsMember s) (λ a. cond_both (member.is_here s view) _ _ (KeepsMember s) (λ b. w) (λ b. asks_keeps view)) (λ a. quiet_keeps s))
 
-  prepare_keeps : (from view op commit : ℕ) (entry : Entry) → KeepsMember s (normal_case.prepare s from (message.Prepare view op commit entry))
+  prepare_keeps : (from view op commit : ℕ) (entry : Entry) → KeepsMember s (normal_case.prepare s from view op commit entry)
   prepare_keeps from view op commit entry = primary_keeps from view (normal_case.prepares s op commit entry)
       (cond_both (nat_le op (length s.log)) _ _ (KeepsMember s) (λ x. record { me = refl; controllers = refl; life = refl; acked = λ z. z; rises = λ u. tt })
       (λ x. cond_both (nat_eq op (length s.log + 1)) _ _ (KeepsMember s) (λ y. cond_both (fits s.log entry) _ _ (KeepsMember s) (λ q. record { me = refl; controllers = refl; life = refl; acked = λ z. z; rises = λ u. tt }) (λ q. quiet_keeps s))
       (λ y. record { me = refl; controllers = refl; life = refl; acked = λ z. z; rises = λ u. tt })))
 
-  commit_keeps : (from view commit : ℕ) → KeepsMember s (normal_case.commit_told s from (message.Commit view commit))
+  commit_keeps : (from view commit : ℕ) → KeepsMember s (normal_case.commit_told s from view commit)
   commit_keeps from view commit = primary_keeps from view (normal_case.commits s commit) (cond_both (nat_le commit (length s.log)) _ _ (KeepsMember s) (λ x. record { me = refl; controllers = refl; life = refl; acked = λ z. z; rises = λ u. tt }) (λ x. record { me = refl; controllers = refl; life = refl; acked = λ z. z; rises = λ u. tt }))
 
-  prepare_ok_keeps : (from view op : ℕ) → KeepsMember s (normal_case.prepare_ok s from (message.PrepareOk view op))
+  prepare_ok_keeps : (from view op : ℕ) → KeepsMember s (normal_case.prepare_ok s from view op)
   prepare_ok_keeps from view op = other_keeps from _ (cond_both (normal_case.is_counted s view op) _ _ (KeepsMember s)
       (λ a. record { me = refl; controllers = refl; life = refl; acked = λ z. length-set s.acked from (max op (slice_index s.acked from)) ∙ z; rises = λ u. tt })
       (λ a. quiet_keeps s))
 
-  get_keeps : (from view op : ℕ) → KeepsMember s (transfer.get_state s from (message.GetState view op))
+  get_keeps : (from view op : ℕ) → KeepsMember s (transfer.get_state s from view op)
   get_keeps from view op = other_keeps from _ (cond_both (transfer.is_answered s view op) _ _ (KeepsMember s) (λ a. record { me = refl; controllers = refl; life = refl; acked = λ z. z; rises = λ u. tt }) (λ a. quiet_keeps s))
 
-  fetch_keeps : (from view op : ℕ) → KeepsMember s (change.fetch s from (message.Fetch view op))
+  fetch_keeps : (from view op : ℕ) → KeepsMember s (change.fetch s from view op)
   fetch_keeps from view op = other_keeps from _ (cond_both (change.is_change s view && nat_le op s.commit) _ _ (KeepsMember s) (λ a. record { me = refl; controllers = refl; life = refl; acked = λ z. z; rises = λ u. tt }) (λ a. quiet_keeps s))
 
   above_rises : (view : ℕ) → PromiseRises s (cond (nat_lt s.promise view) (Some view) None)
@@ -173,11 +173,11 @@ module _ (s : VrState) where
   adopt_keeps : (view first commit : ℕ) (log : List Entry) → KeepsMember s (adopting.adopt s view first commit log)
   adopt_keeps view first commit log = cond_both (nat_lt s.commit first) _ _ (KeepsMember s) (λ a. record { me = refl; controllers = refl; life = refl; acked = λ z. z; rises = λ u. tt }) (λ a. record { me = refl; controllers = refl; life = refl; acked = λ z. z; rises = λ u. above_rises view })
 
-  start_view_keeps : (from view first commit : ℕ) (log : List Entry) → KeepsMember s (change.start_view s from (message.StartView view first commit log))
+  start_view_keeps : (from view first commit : ℕ) (log : List Entry) → KeepsMember s (change.start_view s from view first commit log)
   start_view_keeps from view first commit log = other_keeps from _ (cond_both (member.is_primary_of s from view && member.is_newer s view) _ _ (KeepsMember s)
       (λ a. guarded_keeps (adopting.adopt s view first commit log) (adopt_keeps view first commit log)) (λ a. quiet_keeps s))
 
-  new_state_keeps : (from view first commit : ℕ) (log : List Entry) → KeepsMember s (transfer.new_state s from (message.NewState view first commit log))
+  new_state_keeps : (from view first commit : ℕ) (log : List Entry) → KeepsMember s (transfer.new_state s from view first commit log)
   new_state_keeps from view first commit log = other_keeps from _ (cond_both (transfer.is_longer s view first log) _ _ (KeepsMember s)
       (λ a. cond_both (follows s.log (transfer.lacking s first log)) _ _ (KeepsMember s) (λ x. record { me = refl; controllers = refl; life = refl; acked = λ z. z; rises = λ u. tt }) (λ x. quiet_keeps s))
       (λ a. cond_both (transfer.is_adopted s view first) _ _ (KeepsMember s) (λ x. guarded_keeps (adopting.adopt s view first commit log) (adopt_keeps view first commit log)) (λ x. quiet_keeps s)))
@@ -199,7 +199,7 @@ module _ (s : VrState) where
       (λ a. guarded_keeps (entering.check (entering.voted s from)) (nothing_keeps s (entering.voted s from) _ (record { me = refl; controllers = refl; life = refl; acked = λ z. z }) (check_nothing (entering.voted s from))))
       (λ a. cond_both (member.leads s) _ _ (KeepsMember s) (λ b. record { me = refl; controllers = refl; life = refl; acked = λ z. z; rises = λ u. tt }) (λ b. quiet_keeps s))
 
-  start_view_change_keeps : (from view : ℕ) → KeepsMember s (change.start_view_change s from (message.StartViewChange view))
+  start_view_change_keeps : (from view : ℕ) → KeepsMember s (change.start_view_change s from view)
   start_view_change_keeps from view = other_keeps from _ (cond_both (member.is_later s view) _ _ (KeepsMember s)
       (λ later.
       let t : VrState = entering.entered_view s view in
@@ -216,17 +216,17 @@ module _ (s : VrState) where
       (λ later. cond_both (nat_eq view s.view && member.is_changing s) _ _ (KeepsMember s)
       (λ b. guarded_keeps (entering.check (entering.collects s c)) (nothing_keeps s (entering.collects s c) _ (collects_same s c) (check_nothing (entering.collects s c)))) (λ b. quiet_keeps s))
 
-  do_view_change_keeps : (from view normal commit : ℕ) (log : List Entry) → KeepsMember s (change.do_view_change s from (message.DoViewChange view normal commit log))
+  do_view_change_keeps : (from view normal commit : ℕ) (log : List Entry) → KeepsMember s (change.do_view_change s from view normal commit log)
   do_view_change_keeps from view normal commit log = other_keeps from _ (cond_both (member.is_primary_of s s.me view) _ _ (KeepsMember s)
       (λ a. collect_keeps view (record { from = from; normal = normal; commit = commit; log = log })) (λ a. quiet_keeps s))
 
-  supply_keeps : (from view first : ℕ) (log : List Entry) → KeepsMember s (change.supply s from (message.Supply view first log))
+  supply_keeps : (from view first : ℕ) (log : List Entry) → KeepsMember s (change.supply s from view first log)
   supply_keeps from view first log =
       let t : VrState = change.supplied s first log in
       other_keeps from _ (cond_both (change.is_message_wanted s view first log) _ _ (KeepsMember s)
       (λ a. guarded_keeps (entering.check t) (nothing_keeps s t _ (record { me = refl; controllers = refl; life = refl; acked = λ z. z }) (check_nothing t))) (λ a. quiet_keeps s))
 
-  recovery_keeps : (from nonce promise : ℕ) → KeepsMember s (recovering.recovery s from (message.Recovery nonce promise))
+  recovery_keeps : (from nonce promise : ℕ) → KeepsMember s (recovering.recovery s from nonce promise)
   recovery_keeps from nonce promise = other_keeps from _ (cond_both (member.is_normal s) _ _ (KeepsMember s)
       (λ a. cond_both (nat_lt s.view promise) _ _ (KeepsMember s)
       (λ later. enters_keeps promise (ap (λ (t : Bool). t && nat_lt s.view promise) (up_normal s.status a) ∙ later)) (λ b. record { me = refl; controllers = refl; life = refl; acked = λ z. z; rises = λ u. tt }))
@@ -238,7 +238,7 @@ module _ (s : VrState) where
       cond_both (nat_lt t.commit 0) _ _ (KeepsMember s) (λ a. record { me = l.me; controllers = l.controllers; life = l.life; acked = l.acked; rises = λ u. tt })
       (λ a. record { me = l.me; controllers = l.controllers; life = l.life; acked = l.acked; rises = λ u. cond_both (nat_lt t.promise view) _ _ (λ q. PromiseRises s q) (λ ok. let x = ltb-true t.promise view ok in omega arith) (λ ok. tt) })
 
-  response_keeps : (from view nonce : ℕ) (filled : Option Filled) → KeepsMember s (recovering.response s from (message.RecoveryResponse view nonce filled))
+  response_keeps : (from view nonce : ℕ) (filled : Option Filled) → KeepsMember s (recovering.response s from view nonce filled)
   response_keeps from view nonce filled =
       let t : VrState = recovering.responded s (record { from = from; view = view; filled = filled }) in
       let l : SameMember s t = record { me = refl; controllers = refl; life = refl; acked = λ z. z } in

@@ -186,7 +186,7 @@ module _ {g : Group Entry} {h h' : History Entry} {c : ℕ} {s : VrState} (gr : 
   goes_other from st go = cond_both (member.is_other s from) _ _ (IsMemberTurn g h h' c) go (λ own. goes_quiet)
 
   -- FETCH
-  pub goes_fetch : (from view op : ℕ) → IsMemberTurn g h h' c (change.fetch s from (message.Fetch view op))
+  pub goes_fetch : (from view op : ℕ) → IsMemberTurn g h h' c (change.fetch s from view op)
   goes_fetch from view op = goes_other from _ (λ other. cond_both (change.is_change s view && nat_le op s.commit) _ _ (IsMemberTurn g h h' c)
       (λ ok.
       let x = and_parts (change.is_change s view) (nat_le op s.commit) ok in
@@ -207,7 +207,7 @@ module _ {g : Group Entry} {h h' : History Entry} {c : ℕ} {s : VrState} (gr : 
       (λ primary. goes_quiet))
 
   -- PREPARE
-  pub goes_prepare : (from view op commit : ℕ) (entry : Entry) → IsGoodPrepare g h view op commit entry → IsMemberTurn g h h' c (normal_case.prepare s from (message.Prepare view op commit entry))
+  pub goes_prepare : (from view op commit : ℕ) (entry : Entry) → IsGoodPrepare g h view op commit entry → IsMemberTurn g h h' c (normal_case.prepare s from view op commit entry)
   goes_prepare from view op commit entry good = goes_from_primary from view (normal_case.prepares s op commit entry) (λ n same ne.
       let good' = subst (λ (w : ℕ). IsGoodPrepare g h w op commit entry) same good in
       let own = own_of_view (good_at i b at) n in

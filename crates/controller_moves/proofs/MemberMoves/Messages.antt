@@ -60,7 +60,7 @@ acks_are c t commit = by (nat_lt commit (length t.log))
     by false = refl
 
 module _ {g : Group Entry} {h h' : History Entry} {c : ℕ} {s : VrState} (gr : IsGroup g) (i : Invariant g h) (b : c < size g) (at : StandsAt h c (member_state_of s) s.promise s.life) (fine : IsMemberOf g c s) where
-  pub goes_commit : (from view commit : ℕ) → IsCommitted g h view commit → IsMemberTurn g h h' c (normal_case.commit_told s from (message.Commit view commit))
+  pub goes_commit : (from view commit : ℕ) → IsCommitted g h view commit → IsMemberTurn g h h' c (normal_case.commit_told s from view commit)
   goes_commit from view commit known = goes_from_primary gr i b at fine from view (normal_case.commits s commit) (λ n same ne.
       let own = own_of_view (good_at i b at) n in
       let within = own.within in
@@ -71,7 +71,7 @@ module _ {g : Group Entry} {h h' : History Entry} {c : ℕ} {s : VrState} (gr : 
       (committed_max own.committed (subst (λ (w : ℕ). IsCommitted g h w commit) same known)) (resembles_self (committing (member_state_of s) (max s.commit commit))) t tr)
       (λ more. goes_tells gr i b at fine (member.primary_of s s.view) (message.GetState s.view (length s.log)) (λ w q. refl) tt))
 
-  pub goes_get_state : (from view op : ℕ) → IsMemberTurn g h h' c (transfer.get_state s from (message.GetState view op))
+  pub goes_get_state : (from view op : ℕ) → IsMemberTurn g h h' c (transfer.get_state s from view op)
   goes_get_state from view op = goes_other gr i b at fine from _ (λ other. cond_both (transfer.is_answered s view op) _ _ (IsMemberTurn g h h' c)
       (λ ok.
       let x = and_parts (member.is_here s view) (nat_le op (length s.log)) ok in
@@ -93,14 +93,14 @@ module _ {g : Group Entry} {h h' : History Entry} {c : ℕ} {s : VrState} (gr : 
       (λ ok t tr. turn_adopt gr i b at view first commit (member.primary_of s view) log (nat_lt commit (length whole)) x.0 ne news (ltb-false s.commit first ok) x.1
       (like, subst₂ (λ p ls. Moved h h' c (member_state_of new) p s.life ls) promised (acks_are c new commit) t) tr)
 
-  pub goes_start_view : (from view first commit : ℕ) (log : List Entry) → IsGoodNews g h view first commit log → IsMemberTurn g h h' c (change.start_view s from (message.StartView view first commit log))
+  pub goes_start_view : (from view first commit : ℕ) (log : List Entry) → IsGoodNews g h view first commit log → IsMemberTurn g h h' c (change.start_view s from view first commit log)
   goes_start_view from view first commit log news = goes_other gr i b at fine from _ (λ other. cond_both (member.is_primary_of s from view && member.is_newer s view) _ _ (IsMemberTurn g h h' c)
       (λ ok.
       let x = and_parts (member.is_primary_of s from view) (member.is_newer s view) ok in
       goes_guarded gr i b at fine (adopting.adopt s view first commit log) (goes_adopts view first commit log x.1 (not_own fine from view other x.0) news))
       (λ ok. goes_quiet gr i b at fine))
 
-  pub goes_new_state : (from view first commit : ℕ) (log : List Entry) → IsGoodNews g h view first commit log → IsMemberTurn g h h' c (transfer.new_state s from (message.NewState view first commit log))
+  pub goes_new_state : (from view first commit : ℕ) (log : List Entry) → IsGoodNews g h view first commit log → IsMemberTurn g h h' c (transfer.new_state s from view first commit log)
   goes_new_state from view first commit log news = goes_other gr i b at fine from _ (λ other. cond_both (transfer.is_longer s view first log) _ _ (IsMemberTurn g h h' c)
       (λ ok.
       let x = and_parts (member.is_here s view && not (member.is_primary s) && nat_le first (length s.log)) (nat_lt (length s.log) (first + length log)) ok in
@@ -121,7 +121,7 @@ module _ {g : Group Entry} {h h' : History Entry} {c : ℕ} {s : VrState} (gr : 
       (λ ok. goes_quiet gr i b at fine)))
 
   -- PREPAREOK
-  pub goes_prepare_ok : 1 ≤ g.most_failures → (from view op : ℕ) → IsIn (abstract_letter from c (core.PrepareOk view op)) h.sent → IsMemberTurn g h h' c (normal_case.prepare_ok s from (message.PrepareOk view op))
+  pub goes_prepare_ok : 1 ≤ g.most_failures → (from view op : ℕ) → IsIn (abstract_letter from c (core.PrepareOk view op)) h.sent → IsMemberTurn g h h' c (normal_case.prepare_ok s from view op)
   goes_prepare_ok o from view op sent = goes_other gr i b at fine from _ (λ other. cond_both (normal_case.is_counted s view op) _ _ (IsMemberTurn g h h' c)
       (λ ok t tr.
       let x = and_parts (member.is_here s view && member.is_primary s) (nat_le op (length s.log)) ok in

@@ -186,7 +186,7 @@ module _ (s : VrState) (p : CanBeSpelled s) where
   primary_valid : (from view : ℕ) (st : VrStep) → IsValidStep st → IsValidStep (normal_case.from_primary s from view st)
   primary_valid from view st w = other_valid from _ (cond_both (member.is_primary_of s from view) _ _ IsValidStep (λ a. cond_both (member.is_here s view) _ _ IsValidStep (λ b. w) (λ b. asks_valid view)) (λ a. quiet_valid s p))
 
-  prepare_valid : (from view op commit : ℕ) (entry : Entry) → IsValidEntry entry → IsValidStep (normal_case.prepare s from (message.Prepare view op commit entry))
+  prepare_valid : (from view op commit : ℕ) (entry : Entry) → IsValidEntry entry → IsValidStep (normal_case.prepare s from view op commit entry)
   prepare_valid from view op commit entry q = primary_valid from view (normal_case.prepares s op commit entry)
       (cond_both (nat_le op (length s.log)) _ _ IsValidStep (λ x. record { state = log_spelled s.log _ p.log; letters = (tt, tt) })
       (λ x. cond_both (nat_eq op (length s.log + 1)) _ _ IsValidStep
@@ -195,11 +195,11 @@ module _ (s : VrState) (p : CanBeSpelled s) where
       (λ f. quiet_valid s p))
       (λ y. tells_valid s (member.primary_of s s.view) (message.GetState s.view (length s.log)) p tt)))
 
-  commit_valid : (from view commit : ℕ) → IsValidStep (normal_case.commit_told s from (message.Commit view commit))
+  commit_valid : (from view commit : ℕ) → IsValidStep (normal_case.commit_told s from view commit)
   commit_valid from view commit = primary_valid from view (normal_case.commits s commit)
       (cond_both (nat_le commit (length s.log)) _ _ IsValidStep (λ x. record { state = log_spelled s.log _ p.log; letters = tt }) (λ x. tells_valid s (member.primary_of s s.view) (message.GetState s.view (length s.log)) p tt))
 
-  prepare_ok_valid : (from view op : ℕ) → IsValidStep (normal_case.prepare_ok s from (message.PrepareOk view op))
+  prepare_ok_valid : (from view op : ℕ) → IsValidStep (normal_case.prepare_ok s from view op)
   prepare_ok_valid from view op = other_valid from _ (cond_both (normal_case.is_counted s view op) _ _ IsValidStep
       (λ a. record { state = record { log = p.log; collected = p.collected; supply = p.supply; responses = p.responses }; letters = tt }) (λ a. quiet_valid s p))
 
@@ -211,15 +211,15 @@ module _ (s : VrState) (p : CanBeSpelled s) where
         letters = cond_both (nat_lt commit (length (take first s.log ++ log))) _ _ AreValidLetters (λ z. (tt, tt)) (λ z. tt);
       })
 
-  start_view_valid : (from view first commit : ℕ) (log : List Entry) → IsValidLog log → IsValidStep (change.start_view s from (message.StartView view first commit log))
+  start_view_valid : (from view first commit : ℕ) (log : List Entry) → IsValidLog log → IsValidStep (change.start_view s from view first commit log)
   start_view_valid from view first commit log q = other_valid from _ (cond_both (member.is_primary_of s from view && member.is_newer s view) _ _ IsValidStep
       (λ a. guarded_valid s (adopting.adopt s view first commit log) p (adopt_valid view first commit log q)) (λ a. quiet_valid s p))
 
-  get_valid : (from view op : ℕ) → IsValidStep (transfer.get_state s from (message.GetState view op))
+  get_valid : (from view op : ℕ) → IsValidStep (transfer.get_state s from view op)
   get_valid from view op = other_valid from _ (cond_both (transfer.is_answered s view op) _ _ IsValidStep
       (λ a. tells_valid s from (message.NewState s.view op s.commit (drop op s.log)) p (valid_rest op s.log p.log)) (λ a. quiet_valid s p))
 
-  new_state_valid : (from view first commit : ℕ) (log : List Entry) → IsValidLog log → IsValidStep (transfer.new_state s from (message.NewState view first commit log))
+  new_state_valid : (from view first commit : ℕ) (log : List Entry) → IsValidLog log → IsValidStep (transfer.new_state s from view first commit log)
   new_state_valid from view first commit log q = other_valid from _ (cond_both (transfer.is_longer s view first log) _ _ IsValidStep
       (λ a. cond_both (follows s.log (transfer.lacking s first log)) _ _ IsValidStep
       (λ f.
@@ -228,7 +228,7 @@ module _ (s : VrState) (p : CanBeSpelled s) where
       (λ f. quiet_valid s p))
       (λ a. cond_both (transfer.is_adopted s view first) _ _ IsValidStep (λ b. guarded_valid s (adopting.adopt s view first commit log) p (adopt_valid view first commit log q)) (λ b. quiet_valid s p)))
 
-  fetch_valid : (from view op : ℕ) → IsValidStep (change.fetch s from (message.Fetch view op))
+  fetch_valid : (from view op : ℕ) → IsValidStep (change.fetch s from view op)
   fetch_valid from view op = other_valid from _ (cond_both (change.is_change s view && nat_le op s.commit) _ _ IsValidStep
       (λ a. tells_valid s from (message.Supply s.view op (drop op (take s.commit s.log))) p (valid_rest op (take s.commit s.log) (valid_front s.commit s.log p.log))) (λ a. quiet_valid s p))
 
@@ -239,7 +239,7 @@ later_granted : (first : VrStep) (next : VrState → VrStep) → IsValidStep fir
 later_granted first next a b l = then_valid first next a (b l)
 
 module _ (s : VrState) (p : CanBeSpelled s) where
-  start_view_change_valid : (from view : ℕ) → IsValidStep (change.start_view_change s from (message.StartViewChange view))
+  start_view_change_valid : (from view : ℕ) → IsValidStep (change.start_view_change s from view)
   start_view_change_valid from view = other_valid s p from _ (cond_both (member.is_later s view) _ _ IsValidStep
       (λ b.
       let t : VrState = entering.entered_view s view in
@@ -250,7 +250,7 @@ module _ (s : VrState) (p : CanBeSpelled s) where
       (λ x. cond_both (member.leads s) _ _ IsValidStep (λ y. tells_valid s from (message.StartView s.view s.base s.commit (drop s.base s.log)) p (valid_rest s.base s.log p.log)) (λ y. quiet_valid s p)))
       (λ same. quiet_valid s p)))
 
-  do_view_change_valid : (from view normal commit : ℕ) (log : List Entry) → IsValidLog log → IsValidStep (change.do_view_change s from (message.DoViewChange view normal commit log))
+  do_view_change_valid : (from view normal commit : ℕ) (log : List Entry) → IsValidLog log → IsValidStep (change.do_view_change s from view normal commit log)
   do_view_change_valid from view normal commit log q =
       let c : Collected = record { from = from; normal = normal; commit = commit; log = log } in
       let t : VrState = entering.entered_view s view in
@@ -261,7 +261,7 @@ module _ (s : VrState) (p : CanBeSpelled s) where
       (λ b. cond_both (nat_eq view s.view && member.is_changing s) _ _ IsValidStep (λ x. guarded_valid s (entering.check (entering.collects s c)) p (check_valid (entering.collects s c) (collects_spelled s p c q))) (λ x. quiet_valid s p)))
       (λ a. quiet_valid s p))
 
-  supply_valid : (from view first : ℕ) (log : List Entry) → IsValidLog log → IsValidStep (change.supply s from (message.Supply view first log))
+  supply_valid : (from view first : ℕ) (log : List Entry) → IsValidLog log → IsValidStep (change.supply s from view first log)
   supply_valid from view first log q =
       let t : VrState = change.supplied s first log in
       other_valid s p from _ (cond_both (change.is_message_wanted s view first log) _ _ IsValidStep
@@ -270,7 +270,7 @@ module _ (s : VrState) (p : CanBeSpelled s) where
   filled_valid : IsValidFilled (recovering.filled s)
   filled_valid = cond_both (member.is_primary s) _ _ IsValidFilled (λ a. p.log) (λ a. tt)
 
-  recovery_valid : (from nonce promise : ℕ) → IsValidStep (recovering.recovery s from (message.Recovery nonce promise))
+  recovery_valid : (from nonce promise : ℕ) → IsValidStep (recovering.recovery s from nonce promise)
   recovery_valid from nonce promise = other_valid s p from _ (cond_both (member.is_normal s) _ _ IsValidStep
       (λ a. cond_both (nat_lt s.view promise) _ _ IsValidStep (λ b. enters_valid s p promise) (λ b. tells_valid s from (message.RecoveryResponse s.view nonce (recovering.filled s)) p filled_valid)) (λ a. quiet_valid s p))
 
@@ -292,7 +292,7 @@ module _ (s : VrState) (p : CanBeSpelled s) where
   ending_valid t u = cond_both (recovering.are_responses_enough t) _ _ IsValidFilled
       (λ b. found_valid (recovering.greatest_view_told t.responses) (member.primary_of t (recovering.greatest_view_told t.responses)) t.responses u.responses) (λ b. tt)
 
-  response_valid : (from view nonce : ℕ) (filled : Option Filled) → IsValidFilled filled → IsValidStep (recovering.response s from (message.RecoveryResponse view nonce filled))
+  response_valid : (from view nonce : ℕ) (filled : Option Filled) → IsValidFilled filled → IsValidStep (recovering.response s from view nonce filled)
   response_valid from view nonce filled q =
       let r : Response = record { from = from; view = view; filled = filled } in
       let t : VrState = recovering.responded s r in

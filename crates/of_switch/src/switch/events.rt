@@ -1,17 +1,18 @@
 //! What a switch makes of what happens (Ravana, 4.1).
-ghost use Rattle.std.specs.Prelude.{◌≡◌, ◌≤◌, ◌<◌, ◌+◌, ◌-◌, ◌^◌, [], true, false, length, take, drop, All, if◌then◌else◌, IfOk, OnOk, OnErr, ◌∷◌};
-ghost use Rattle.event_buffer.specs.Buffer.{most_held, highest_port, is_full, next_number, cleared_to, with_dirty};
+ghost use Rattle.std.specs.Prelude.{◌≡◌, ◌≤◌, ◌<◌, ◌+◌, ◌-◌, [], true, false, length, take, drop, All, if◌then◌else◌, IfOk, OnOk, OnErr, ◌∷◌};
+ghost use Rattle.event_buffer.specs.Buffer.{most_held, highest_port, is_full, cleared_to, with_dirty};
 ghost use Rattle.of_switch.specs.State.{Turned, life_of};
 ghost use Rattle.of_switch.specs.Events.{window, coming as coming_events, first_held, cleared, raised, port_status, port_raised, with_port, next_life, on_port, on_event_ack, brings, flow_removed as removal_told, switch_on_restart, switch_on_tick};
 ghost use Rattle.of_types.specs.Lives.{last_life};
 ghost use Rattle.role_fence.specs.Fence.{starting_fence};
-ghost use Rattle.of_switch.specs.Drafts.{IsDraft, draft_of, drafted, with_raised, with_removed, with_greetings, with_first, with_ports, forgets, forgetting, all_posted, changed_to, life_begun};
+ghost use Rattle.of_switch.specs.Drafts.{IsDraft, draft_of, drafted, with_raised, with_removed, with_greetings, with_first, with_ports, forgets, forgetting, changed_to, life_begun};
 
 use super::{Switch, Table, new_table};
 use crate::draft::{Draft, Parts, WINDOW, first};
+use crate::history::History;
 use crate::says::SwitchSays;
 use command_buffer::CommandBuffer;
-use event_buffer::EventBuffer;
+use event_buffer::HeldEvents;
 use flow_clock::Expired;
 use journal::Said;
 use of_types::{
@@ -20,7 +21,6 @@ use of_types::{
 };
 use role_fence::RoleFence;
 use std::alloc::{AllocError, Global};
-use std::collections::VecDeque;
 
 impl Switch {
     /// The switch takes what a draft adds.
@@ -30,13 +30,11 @@ impl Switch {
         ensures err { OnErr result (self.new ≡ self.old) }
     {
         let Parts {
-            mut events,
-            joining,
+            events,
             sent,
             letters,
         } = draft.into_parts();
-        self.events.append(&mut events)?;
-        post_all(&mut self.buffer, joining);
+        self.history.join(events)?;
         self.sent = sent;
         Ok(Items::from_vec(letters))
     }
@@ -59,7 +57,7 @@ impl Switch {
         ensures ok { IfOk result (λ letters. Turned (port_raised port (with_port self.old port up)) self.new letters) }
         ensures err { OnErr result (self.new ≡ self.old) }
     {
-        if self.buffer.is_full() {
+        if self.history.counts().is_full() {
             self.remember_change(port, up);
             Ok(Items::new(self.alloc))
         } else {
@@ -72,7 +70,7 @@ impl Switch {
         requires { (1 ≤ port) × (port ≤ self.old.ports) }
         ensures { self.new ≡ record (with_port self.old port up) { buffer = with_dirty self.old.buffer port } }
     {
-        self.buffer.mark_dirty(port);
+        self.history.mark_dirty(port);
         self.set_port(port, up);
     }
 
@@ -122,7 +120,7 @@ impl Switch {
         ensures err { OnErr result (self.new ≡ self.old) }
         ensures memory { OnErr result (brings self.old through ≡ true) }
     {
-        if self.coming(through).is_empty() && !self.buffer.has_dirty() {
+        if self.coming(through).is_empty() && !self.history.counts().has_dirty() {
             self.drop_events(through);
             return Ok(Items::new(self.alloc));
         }
@@ -133,7 +131,7 @@ impl Switch {
     fn drop_events(&mut self, through: u64)
         ensures { self.new ≡ cleared self.old through }
     {
-        self.buffer.clear(through);
+        self.history.clear(through);
     }
 
     /// What is acknowledged leaves the buffer, and what it makes room for is told.
@@ -154,8 +152,9 @@ impl Switch {
         ensures count { result ≡ cleared_to self.now.buffer through - self.now.buffer.cleared }
         ensures within { result ≤ length self.now.buffer.held }
     {
-        let next = self.buffer.next_number();
-        through.min(next).saturating_sub(self.buffer.cleared()) as usize
+        let held = self.history.counts();
+        let next = held.next_number();
+        through.min(next).saturating_sub(held.cleared()) as usize
     }
 
     /// What a turn is to add once events have left.
@@ -165,7 +164,7 @@ impl Switch {
         let left = self.leaving(through);
         Draft::new(
             self.alloc,
-            &self.buffer,
+            self.history.counts(),
             left,
             self.fence.master(),
             self.sent,
@@ -176,7 +175,7 @@ impl Switch {
     fn coming(&self, through: u64) -> &[Event]
         ensures { result.now ≡ coming_events (cleared self.now through) (cleared_to self.now.buffer through - self.now.buffer.cleared) }
     {
-        coming(self.buffer.held(), self.leaving(through))
+        coming(self.history.held(), self.leaving(through))
     }
 
     /// The ports that were remembered, as many as there is room for. It takes no memory for none.
@@ -185,10 +184,11 @@ impl Switch {
         ensures within { IfOk result (λ ports. All (λ port. (1 ≤ port) × (port ≤ highest_port)) ports.items) }
         ensures memory { OnErr result ((0 < room) × (0 < length self.now.buffer.dirty)) }
     {
-        if room == 0 || !self.buffer.has_dirty() {
+        let held = self.history.counts();
+        if room == 0 || !held.has_dirty() {
             return Ok(Vec::new(self.alloc));
         }
-        let mut ports = self.buffer.dirty()?;
+        let mut ports = held.dirty(self.alloc)?;
         ports.truncate(room);
         Ok(ports)
     }
@@ -207,15 +207,12 @@ impl Switch {
         ensures memory { OnErr result (0 < length draft.raised) }
     {
         let Parts {
-            mut events,
-            joining,
+            events,
             sent,
             letters,
         } = draft.into_parts();
-        self.events.append(&mut events)?;
-        self.buffer.clear(through);
-        forget_all(&mut self.buffer, ports);
-        post_all(&mut self.buffer, joining);
+        self.history.replace(through, events)?;
+        forget_all(&mut self.history, ports);
         self.sent = sent;
         Ok(Items::from_vec(letters))
     }
@@ -238,17 +235,17 @@ impl Switch {
         ensures ok { IfOk result (λ letters. Turned (switch_on_restart self.old) self.new letters) }
         ensures err { OnErr result (self.new ≡ self.old) }
     {
-        let buffer = EventBuffer::new(self.alloc, self.number(), self.life() + 1)?;
-        let draft = self.first_events(&buffer)?;
-        self.begin_life(buffer, draft)
+        let draft = self.first_events()?;
+        self.begin_life(draft)
     }
 
     /// The events with which the next life begins, and the greetings.
-    fn first_events(&self, buffer: &EventBuffer) -> Result<Draft, AllocError>
-        requires { buffer.now ≡ (next_life self.now).buffer }
+    fn first_events(&self) -> Result<Draft, AllocError>
+        requires { life_of self.now < last_life }
         ensures { IfOk result (λ d. d ≡ life_begun self.now) }
     {
-        let mut draft = Draft::new(self.alloc, buffer, 0, None, self.sent);
+        let held = HeldEvents::new(self.number(), self.life() + 1);
+        let mut draft = Draft::new(self.alloc, &held, 0, None, self.sent);
         draft.raise(switch_up())?;
         let ports = self.down_ports()?;
         self.raise_ports(&mut draft, &ports)?;
@@ -257,12 +254,8 @@ impl Switch {
     }
 
     /// What the switch held of its last life is gone, and it takes what a draft adds.
-    fn begin_life(
-        &mut self,
-        buffer: EventBuffer,
-        draft: Draft,
-    ) -> Result<Said<SwitchSays>, AllocError>
-        requires buffer { buffer ≡ (next_life self.old).buffer }
+    fn begin_life(&mut self, draft: Draft) -> Result<Said<SwitchSays>, AllocError>
+        requires life { life_of self.old < last_life }
         requires kind { IsDraft (next_life self.old) draft }
         ensures ok { IfOk result (λ letters. Turned (drafted (next_life self.old) draft) self.new letters) }
         ensures err { OnErr result (self.new ≡ self.old) }
@@ -271,26 +264,23 @@ impl Switch {
         let table = new_table(self.alloc)?;
         self.ended.reserve(1)?;
         let Parts {
-            mut events,
-            joining,
+            events,
             sent,
             letters,
         } = draft.into_parts();
-        self.events.append(&mut events)?;
-        self.ended.push_reserved(self.buffer.cleared());
-        self.renew(buffer, results, table);
-        post_all(&mut self.buffer, joining);
+        let cleared = self.history.counts().cleared();
+        self.history.begin_life(events)?;
+        self.ended.push_reserved(cleared);
+        self.renew(results, table);
         self.sent = sent;
         Ok(Items::from_vec(letters))
     }
 
     /// What the switch held of its last life gives way.
-    fn renew(&mut self, buffer: EventBuffer, results: CommandBuffer, table: Table)
-        requires events { next_number buffer ≤ length self.old.events }
-        requires executed { results.executed ≤ length self.old.executed }
-        ensures { self.new ≡ record self.old { buffer = buffer; results = results; table = table; fence = starting_fence } }
+    fn renew(&mut self, results: CommandBuffer, table: Table)
+        requires { results.executed ≤ length self.old.executed }
+        ensures { self.new ≡ record self.old { results = results; table = table; fence = starting_fence } }
     {
-        self.buffer = buffer;
         self.results = results;
         self.table = table;
         self.fence = RoleFence::new();
@@ -315,7 +305,7 @@ impl Switch {
         let mut draft = self.draft();
         note_all(self.alloc, &mut draft, left)?;
         self.greet_again(&mut draft)?;
-        draft.tell_first(self.buffer.held())?;
+        draft.tell_first(self.history.held())?;
         Ok(draft)
     }
 
@@ -333,7 +323,7 @@ impl Switch {
     pub(super) fn first_held(&self) -> &[Event]
         ensures { result.now ≡ first_held self.now }
     {
-        first(self.buffer.held(), WINDOW)
+        first(self.history.held(), WINDOW)
     }
 }
 
@@ -375,18 +365,6 @@ fn flow_removed(alloc: Global, expired: &Expired) -> Result<Happening, AllocErro
     Ok(Happening::FlowRemoved(Boxed::new(alloc, removed)?))
 }
 
-/// What happened joins a buffer, in order.
-fn post_all(buffer: &mut EventBuffer, joining: Vec<Happening>)
-    requires room { length buffer.old.held + length joining.items ≤ most_held }
-    requires countable { next_number buffer.old + length joining.items < 2 ^ 64 - 1 }
-    ensures { buffer.new ≡ all_posted joining.items buffer.old }
-{
-    let mut joining = VecDeque::from_vec(joining);
-    while let Some(what) = joining.pop_front() {
-        let _ = buffer.post(what);
-    }
-}
-
 /// The events that come among the first where so many leave.
 fn coming(held: &[Event], left: usize) -> &[Event]
     requires { left ≤ length held.now }
@@ -402,11 +380,11 @@ fn coming(held: &[Event], left: usize) -> &[Event]
 }
 
 /// Ports are forgotten.
-fn forget_all(buffer: &mut EventBuffer, ports: &[u32])
+fn forget_all(history: &mut History, ports: &[u32])
     requires { All (λ port. (1 ≤ port) × (port ≤ highest_port)) ports.now }
-    ensures { buffer.new ≡ forgets ports.now buffer.old }
+    ensures { history.new ≡ record history.old { buffer = forgets ports.now history.old.buffer } }
 {
     for port in ports {
-        buffer.forget_dirty(*port);
+        history.forget_dirty(*port);
     }
 }

@@ -22,7 +22,8 @@ impl Switch {
     pub(super) fn draft(&self) -> Draft
         ensures { result ≡ draft_of self.now }
     {
-        Draft::new(self.alloc, &self.buffer, 0, self.fence.master(), self.sent)
+        let held = self.history.counts();
+        Draft::new(self.alloc, held, 0, self.fence.master(), self.sent)
     }
 
     /// A frame at a port that is up meets the table. Any other is dropped.

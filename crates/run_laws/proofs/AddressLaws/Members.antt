@@ -104,7 +104,7 @@ module _ (n : ℕ) where
   committed s commit h =
       both (nat_le commit (length s.log)) _ _ (λ _. rests _ (record { all = h.all; me = h.me; collected = h.collected })) (λ _. asked s s.view (length s.log) h)
 
-  counts : (s : VrState) (from view op : ℕ) → IsOfGroup n s → StaysIn n (prepare_ok s from (message.PrepareOk view op))
+  counts : (s : VrState) (from view op : ℕ) → IsOfGroup n s → StaysIn n (prepare_ok s from view op)
   counts s from view op h =
       both (is_other s from) _ _
       (λ _. both (is_counted s view op) _ _ (λ _. rests _ (record { all = h.all; me = h.me; collected = h.collected })) (λ _. rests s h)) (λ _. rests s h)
@@ -166,7 +166,7 @@ module _ (n : ℕ) where
   suspect_stays : (s : VrState) (view : ℕ) → IsOfGroup n s → StaysIn n (suspect s view)
   suspect_stays s view h = both (is_later s view) _ _ (λ _. checked s (enters s view) h (enters_stay s view h)) (λ _. rests s h)
 
-  vote_stays : (s : VrState) (from view : ℕ) → IsOfGroup n s → StaysIn n (start_view_change s from (message.StartViewChange view))
+  vote_stays : (s : VrState) (from view : ℕ) → IsOfGroup n s → StaysIn n (start_view_change s from view)
   vote_stays s from view h =
       both (is_other s from) _ _
       (λ other. both (is_later s view) (vote_later s from view) _
@@ -183,7 +183,7 @@ module _ (n : ℕ) where
       (λ _. checked s _ h (then_both (enter s view) (λ next. check (collects next c)) (enter_stays s view h) (check_stays (collects (entered_view s view) c) (collected_in (entered_view s view) c (entered_in s view h) there))))
       (λ _. both (nat_eq view s.view && is_changing s) _ _ (λ _. checked s _ h (check_stays (collects s c) (collected_in s c h there))) (λ _. rests s h))
 
-  collects_stay : (s : VrState) (from view normal commit : ℕ) (log : List Entry) → IsOfGroup n s → StaysIn n (do_view_change s from (message.DoViewChange view normal commit log))
+  collects_stay : (s : VrState) (from view normal commit : ℕ) (log : List Entry) → IsOfGroup n s → StaysIn n (do_view_change s from view normal commit log)
   collects_stay s from view normal commit log h =
       both (is_other s from) _ _
       (λ other. both (is_primary_of s s.me view) _ _ (λ _. collect_stays s view (record { from = from; normal = normal; commit = commit; log = log }) (other_below s from h other) h) (λ _. rests s h))
@@ -201,27 +201,27 @@ module _ (n : ℕ) where
         letters = cond_both (nat_lt commit (length (adopted_log s view first commit log).log)) _ _ (AreToMembers n) (λ _. (primary_below (adopted_log s view first commit log) view k, tt)) (λ _. tt);
       })
 
-  start_view_stays : (s : VrState) (from view first commit : ℕ) (log : List Entry) → IsOfGroup n s → StaysIn n (start_view s from (message.StartView view first commit log))
+  start_view_stays : (s : VrState) (from view first commit : ℕ) (log : List Entry) → IsOfGroup n s → StaysIn n (start_view s from view first commit log)
   start_view_stays s from view first commit log h =
       both (is_other s from) _ _
       (λ _. both (is_primary_of s from view && is_newer s view) _ _ (λ _. checked s _ h (adopt_stays s view first commit log h)) (λ _. rests s h)) (λ _. rests s h)
 
-  fetch_stays : (s : VrState) (from view op : ℕ) → IsOfGroup n s → StaysIn n (fetch s from (message.Fetch view op))
+  fetch_stays : (s : VrState) (from view op : ℕ) → IsOfGroup n s → StaysIn n (fetch s from view op)
   fetch_stays s from view op h =
       both (is_other s from) _ _
       (λ other. both (is_change s view && nat_le op s.commit) _ _ (λ _. told s from _ h (other_below s from h other)) (λ _. rests s h)) (λ _. rests s h)
 
-  supply_stays : (s : VrState) (from view first : ℕ) (log : List Entry) → IsOfGroup n s → StaysIn n (supply s from (message.Supply view first log))
+  supply_stays : (s : VrState) (from view first : ℕ) (log : List Entry) → IsOfGroup n s → StaysIn n (supply s from view first log)
   supply_stays s from view first log h =
       both (is_other s from) _ _
       (λ _. both (is_message_wanted s view first log) _ _ (λ _. checked s _ h (check_stays (supplied s first log) (record { all = h.all; me = h.me; collected = h.collected }))) (λ _. rests s h)) (λ _. rests s h)
 
   -- a transfer, and a recovery
-  get_stays : (s : VrState) (from view op : ℕ) → IsOfGroup n s → StaysIn n (get_state s from (message.GetState view op))
+  get_stays : (s : VrState) (from view op : ℕ) → IsOfGroup n s → StaysIn n (get_state s from view op)
   get_stays s from view op h =
       both (is_other s from) _ _ (λ other. both (is_answered s view op) _ _ (λ _. told s from _ h (other_below s from h other)) (λ _. rests s h)) (λ _. rests s h)
 
-  new_stays : (s : VrState) (from view first commit : ℕ) (log : List Entry) → IsOfGroup n s → StaysIn n (new_state s from (message.NewState view first commit log))
+  new_stays : (s : VrState) (from view first commit : ℕ) (log : List Entry) → IsOfGroup n s → StaysIn n (new_state s from view first commit log)
   new_stays s from view first commit log h =
       both (is_other s from) _ _
       (λ _. both (is_longer s view first log) (completes s first commit log) _
@@ -229,7 +229,7 @@ module _ (n : ℕ) where
       (λ _. both (is_adopted s view first) _ _ (λ _. checked s _ h (adopt_stays s view first commit log h)) (λ _. rests s h)))
       (λ _. rests s h)
 
-  recovery_stays : (s : VrState) (from nonce promise : ℕ) → IsOfGroup n s → StaysIn n (recovery s from (message.Recovery nonce promise))
+  recovery_stays : (s : VrState) (from nonce promise : ℕ) → IsOfGroup n s → StaysIn n (recovery s from nonce promise)
   recovery_stays s from nonce promise h =
       both (is_other s from) _ _
       (λ other. both (is_normal s) _ _
@@ -241,7 +241,7 @@ module _ (n : ℕ) where
   end_stays s view None h = rests s h
   end_stays s view (Some told) h = adopt_stays (record s { responses = [] }) view 0 told.commit told.log (record { all = h.all; me = h.me; collected = h.collected })
 
-  response_stays : (s : VrState) (from view nonce : ℕ) (filled : Option Filled) → IsOfGroup n s → StaysIn n (response s from (message.RecoveryResponse view nonce filled))
+  response_stays : (s : VrState) (from view nonce : ℕ) (filled : Option Filled) → IsOfGroup n s → StaysIn n (response s from view nonce filled)
   response_stays s from view nonce filled h =
       let r = responded s (record { from = from; view = view; filled = filled }) in
       both (is_other s from) _ _

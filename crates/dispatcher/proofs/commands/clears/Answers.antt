@@ -1,5 +1,6 @@
 use Rattle.std.proofs.Common.{◌≡◌, ℕ, ◌+◌, ◌-◌, false, get_or, sym, ◌∙◌, ap, ◌++◌, ◌∷◌, [], List, map, filter, arith}
 use Rattle.std.specs.List.{range_with_len}
+use Rattle.dispatcher.specs.Few.{values_in}
 use Rattle.dispatcher.specs.Ledger.{cleared_of_life, has_told}
 use Rattle.dispatcher.specs.declared.answers.AckThrough.{AckThrough}
 use Rattle.dispatcher.proofs.Telling.{none_told, told_yes, told_no}
@@ -13,8 +14,7 @@ loop-switch-init c =
     let first = c.span_of-first.result.0 in
     let all : 0 + first ≡ first = omega arith in (
       c.span_of-first.ensures.within.0,
-      c.new-list.ensures.items
-          ∙ sym (none_told ledger commands 0 first (λ k from below. c.span_of-first.ensures.below k (omega arith)))
+      sym (none_told ledger commands 0 first (λ k from below. c.span_of-first.ensures.below k (omega arith)))
           ∙ ap (λ (n : ℕ). map (cleared_of_life ledger) (filter (has_told ledger commands) (range_with_len 0 n))) all,
     )
 
@@ -25,10 +25,10 @@ loop-switch-preserved c =
       omega arith,
       elim c.if-told-from.branch [
         | then-told-from+in_ok-push w ↦
-            ap (λ v. v.items) w.list-is ∙ w.in_ok-push.ensures.items ∙ ap (λ (l : List AckThrough). l ++ w.cleared.result ∷ []) c.loop-switch.invariant.1
+            ap (λ v. values_in v) w.list-is ∙ w.in_ok-push.ensures ∙ ap (λ (l : List AckThrough). l ++ w.cleared.result ∷ []) c.loop-switch.invariant.1
             ∙ ap (λ (t : AckThrough). map (cleared_of_life c.args.ledger.now) (filter (has_told c.args.ledger.now c.args.commands.now) (range_with_len 0 c.loop-switch.switch)) ++ t ∷ []) w.cleared.ensures ∙ sym (told_yes c.args.ledger.now c.args.commands.now c.loop-switch.switch (told ∙ w.if-told-from.true))
         | else-told-from w ↦
-            ap (λ v. v.items) w.list-is ∙ c.loop-switch.invariant.1 ∙ sym (told_no c.args.ledger.now c.args.commands.now c.loop-switch.switch (told ∙ w.if-told-from.false))
+            ap (λ v. values_in v) w.list-is ∙ c.loop-switch.invariant.1 ∙ sym (told_no c.args.ledger.now c.args.commands.now c.loop-switch.switch (told ∙ w.if-told-from.false))
       ],
     )
 

@@ -1,8 +1,9 @@
 use Rattle.std.proofs.Common.{◌≡◌, ◌&&◌, take, map, filter}
 use Rattle.std.specs.Prelude.{nat_eq}
+use Rattle.dispatcher.specs.Few.{values_in}
 use Rattle.dispatcher.specs.Ledger.{as_numbered, is_outstanding}
 use Rattle.dispatcher.proofs.commands.outstanding_on.Given as goal
 
 abbrev pub invariant-loop-command : goal.invariant-loop-command
 invariant-loop-command l =
-    l.list.items ≡ map (as_numbered l.ledger) (filter (λ x. is_outstanding l.ledger l.marks.marks x && nat_eq x.switch l.switch) (take l.command-index l.command-items))
+    values_in l.list ≡ map (as_numbered l.ledger) (filter (λ x. is_outstanding l.ledger l.marks.marks x && nat_eq x.switch l.switch) (take l.command-index l.command-items))

@@ -1,9 +1,7 @@
-use Rattle.std.proofs.Common.{◌≡◌, ◌≤◌, ◌+◌, ◌++◌, [], ◌∷◌, length, map, take, drop, subst, sym, ap, ◌∙◌, arith, append_assoc}
+use Rattle.std.proofs.Common.{◌≡◌, ◌+◌, ◌++◌, [], ◌∷◌, length, map, take, drop, subst, sym, ap, ◌∙◌, arith, append_assoc}
 use Rattle.std.specs.Prelude.{sum_by}
-use Rattle.std.specs.Vec.Iter.{into_iter_items}
 use Rattle.std.proofs.lemmas.List.{length-drop, map-append}
 use Rattle.std.proofs.lemmas.List.Sums.{sum_by_push}
-use Rattle.journal.specs.declared.entries.Head.{Head}
 use Rattle.journal.specs.Entries.{StartsAt, Tile, letter_count, whole_entry, entry_with}
 use Rattle.journal.proofs.Heads.{entry_here, tile_at}
 use Rattle.journal.proofs.Lists.{drop_more}

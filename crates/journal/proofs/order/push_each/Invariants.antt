@@ -1,4 +1,4 @@
-use Rattle.std.proofs.Common.{◌≡◌, ◌≤◌, ◌+◌, ◌++◌, length, map, take, Some}
+use Rattle.std.proofs.Common.{◌≡◌, ◌≤◌, ◌+◌, ◌++◌, map, take, Some}
 use Rattle.std.specs.Vec.{vec_len, vec_capacity}
 use Rattle.journal.proofs.order.push_each.Given as goal
 

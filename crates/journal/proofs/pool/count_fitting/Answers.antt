@@ -1,4 +1,4 @@
-use Rattle.std.proofs.Common.{◌≡◌, ◌≤◌, ◌+◌, length, sym, ◌∙◌, arith}
+use Rattle.std.proofs.Common.{◌≤◌, ◌+◌, length, sym, ◌∙◌, arith}
 use Rattle.journal.specs.Limits.{pool_packets, pool_bodies}
 use Rattle.journal.specs.Pool.{letter_bytes}
 use Rattle.journal.proofs.Fitting.{all_find_room}

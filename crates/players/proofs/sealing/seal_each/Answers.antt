@@ -16,7 +16,7 @@ loop-to-preserved g c =
     let b = g.B.Body.sealing.sealed (messages.Vr c.args.message.now) in
     elim c.if-to-me.branch [
       | then-to-me+in_ok-seal_told w ↦
-          w.bag-is ∙ w.in_ok-seal_told.ensures
+          w.bag-is ∙ w.in_ok-seal_told.ensures.ok
           ∙ ap (λ l. l ++ record { to = actor.Controller c.loop-to.to; body = b } ∷ []) c.loop-to.invariant
           ∙ sym (one_more b c.args.bag.now c.args.me c.loop-to.to (ne_eqb c.loop-to.to c.args.me w.if-to-me.true))
       | else-to-me w ↦

@@ -18,7 +18,7 @@ returns-in_err-closed-clause-keeps g c =
 pub returns-in_err-closed-clause-stops : goal.returns-in_err-closed-clause-stops
 returns-in_err-closed-clause-stops g c =
     let p = err_from_is_err_and c.from_residual-in_err-closed.result c.from_residual-in_err-closed.ensures.1 in
-    λ kinds holds. rw (p.1, p.2) (closing_stops g.A.App.law g.W.Stable.saving g.B.Body.sealing c.args.steps.now c.args.world.now c.args.stables.now c.do_steps.new.world c.do_steps.new.stables c.run.new.world c.run.new.stables
+    λ kinds holds. rw (p.1, p.2) (closing_stops g.A.App.law g.W.Stable.saving g.B.Body.sealing c.args.steps c.args.world.now c.args.stables.now c.do_steps.new.world c.do_steps.new.stables c.run.new.world c.run.new.stables
     c.in_ok-do_steps.ensures.keeps kinds holds (c.in_ok-do_steps.ensures.follows kinds holds) c.in_err-closed.ensures.keeps c.in_err-closed.field-0.0
     (c.in_err-closed.ensures.stops kinds (c.in_ok-do_steps.ensures.keeps.holds kinds holds)))
 
@@ -27,7 +27,7 @@ returns-clause-keeps g c = keeps_then g.A.App.law g.W.Stable.saving g.B.Body.sea
     c.in_ok-do_steps.ensures.keeps c.in_ok-closed.ensures.keeps
 
 pub returns-clause-played : goal.returns-clause-played
-returns-clause-played g c = λ kinds holds. played g.A.App.law g.W.Stable.saving g.B.Body.sealing c.args.steps.now c.args.world.now c.args.stables.now c.do_steps.new.world c.do_steps.new.stables c.run.new.world c.run.new.stables
+returns-clause-played g c = λ kinds holds. played g.A.App.law g.W.Stable.saving g.B.Body.sealing c.args.steps c.args.world.now c.args.stables.now c.do_steps.new.world c.do_steps.new.stables c.run.new.world c.run.new.stables
     c.in_ok-do_steps.ensures.keeps In_order kinds holds (c.in_ok-do_steps.ensures.follows kinds holds) c.in_ok-closed.ensures.keeps
     c.len-script.result c.len-script.ensures c.in_ok-closed.closed
     (c.in_ok-closed.ensures.closes kinds (c.in_ok-do_steps.ensures.keeps.holds kinds holds))

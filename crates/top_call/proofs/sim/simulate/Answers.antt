@@ -1,12 +1,10 @@
-use Rattle.std.proofs.Common.{List, refl, sym, subst}
+use Rattle.std.proofs.Common.{refl, sym, subst}
 use Rattle.std.specs.List.{AllByRecursion}
 use Rattle.of_types.specs.declared.setup.Setup.{Setup}
-use Rattle.journal.specs.declared.journal.Turn.{Turn}
 use Rattle.journal.specs.Actors.{IsActor}
 use Rattle.journal.specs.Turns.{turn_actor}
 use Rattle.run_spec.specs.Bodies.{byte_bodies}
 use Rattle.world.specs.World.{scene_in}
-use Rattle.closing.specs.Views.{most_view_of_a_script, StepSuspectsUpTo}
 use Rattle.closing.proofs.Leading.{runs_again}
 use Rattle.top_call.proofs.Ran.{ends_closed, ends_stopped, fresh_pairs, primary_there, script_within}
 use Rattle.top_call.proofs.Playing.{views_up_to}
@@ -19,19 +17,18 @@ play-ended-requires-clause-holds g c = (c.requires.stocked.0, c.in_ok-world.ensu
 pub play-ended-requires-clause-pairs : goal.play-ended-requires-clause-pairs
 play-ended-requires-clause-pairs g c =
     let law = g.A.App.law in
-    fresh_pairs law g.W.Stable.saving c.args.stables.now c.args.scenario.now.setup c.in_ok-world.world c.requires.stocked.0 c.requires.fresh c.in_ok-world.ensures.starts
+    fresh_pairs law g.W.Stable.saving c.args.stables.now c.args.scenario.setup c.in_ok-world.world c.requires.stocked.0 c.requires.fresh c.in_ok-world.ensures.starts
     (c.in_ok-world.ensures.holds c.requires.stocked.0 c.requires.stocked.1)
 
 pub play-ended-requires-clause-named : goal.play-ended-requires-clause-named
 play-ended-requires-clause-named g c =
-    subst (λ (l : List Turn). AllByRecursion (λ t. IsActor c.in_ok-world.world.setup (turn_actor t)) l) (sym c.as_slice.ensures)
-    (subst (λ (s : Setup). AllByRecursion (λ t. IsActor s (turn_actor t)) c.args.scenario.now.steps) (sym c.in_ok-world.ensures.starts.setup_is) c.requires.is.actors)
+    subst (λ (s : Setup). AllByRecursion (λ t. IsActor s (turn_actor t)) c.args.scenario.steps) (sym c.in_ok-world.ensures.starts.setup_is) c.requires.is.actors
 
 pub rested-requires-clause-script : goal.rested-requires-clause-script
 rested-requires-clause-script g c =
     let kinds = c.requires.stocked.0 in
     let holds = c.in_ok-world.ensures.holds kinds c.requires.stocked.1 in
-    script_within (scene_in byte_bodies c.in_ok-world.world kinds) c.as_slice.result.now c.play-ended.new.world c.play-ended.result c.in-Ok.closed c.in-Ok.script c.in-Ok.is (c.play-ended.ensures.played kinds holds)
+    script_within (scene_in byte_bodies c.in_ok-world.world kinds) c.args.scenario.steps c.play-ended.new.world c.play-ended.result c.in-Ok.closed c.in-Ok.script c.in-Ok.is (c.play-ended.ensures.played kinds holds)
 
 pub rested-requires-clause-led : goal.rested-requires-clause-led
 rested-requires-clause-led g c =
@@ -46,31 +43,31 @@ rested-requires-clause-led g c =
 pub returns-in-Ok-clause-ends : goal.returns-in-Ok-clause-ends
 returns-in-Ok-clause-ends g c =
     let law = g.A.App.law in
-    let scenario = c.args.scenario.now in
+    let scenario = c.args.scenario in
     let start = c.in_ok-world.world in
     let starts = c.in_ok-world.ensures.starts in
     λ kinds stocked.
     let holds = c.in_ok-world.ensures.holds kinds stocked in
     ends_closed law g.W.Stable.saving scenario kinds start c.args.stables.now c.play-ended.new.world c.play-ended.new.stables starts holds
-    (fresh_pairs law g.W.Stable.saving c.args.stables.now scenario.setup start kinds c.requires.fresh starts holds) c.lawful.ensures.within c.as_slice.result.now c.as_slice.ensures
-    c.play-ended.result c.in-Ok.closed c.in-Ok.script c.args.output c.len-steps.result c.rested.result c.in-Ok.is c.len-steps.ensures
+    (fresh_pairs law g.W.Stable.saving c.args.stables.now scenario.setup start kinds c.requires.fresh starts holds) c.lawful.ensures.within c.args.scenario.steps refl
+    c.play-ended.result c.in-Ok.closed c.in-Ok.script c.args.output c.len-count.result c.rested.result c.in-Ok.is c.len-count.ensures
     c.play-ended.ensures.keeps (c.play-ended.ensures.played kinds holds) c.play-ended.ensures.up c.rested.ensures.ending c.rested.ensures.fits
 
-pub returns-in-Err-clause-ends : goal.returns-in-Err-clause-ends
-returns-in-Err-clause-ends g c =
+pub returns-clause-ends : goal.returns-clause-ends
+returns-clause-ends g c =
     let law = g.A.App.law in
-    let scenario = c.args.scenario.now in
+    let scenario = c.args.scenario in
     let start = c.in_ok-world.world in
     let starts = c.in_ok-world.ensures.starts in
     λ kinds stocked.
     let holds = c.in_ok-world.ensures.holds kinds stocked in
     ends_stopped law g.W.Stable.saving scenario kinds start c.args.stables.now c.play-ended.new.world c.play-ended.new.stables starts holds
-    (fresh_pairs law g.W.Stable.saving c.args.stables.now scenario.setup start kinds c.requires.fresh starts holds) c.lawful.ensures.within c.as_slice.result.now c.as_slice.ensures
+    (fresh_pairs law g.W.Stable.saving c.args.stables.now scenario.setup start kinds c.requires.fresh starts holds) c.lawful.ensures.within c.args.scenario.steps refl
     c.play-ended.result c.in-Err.stop c.args.output c.stopped.result c.in-Err.is c.play-ended.ensures.keeps (c.play-ended.ensures.stops kinds holds) c.stopped.ensures
 
 pub play-ended-requires-clause-views : goal.play-ended-requires-clause-views
 play-ended-requires-clause-views g c =
-    subst (λ (l : List Turn). AllByRecursion (λ t. StepSuspectsUpTo most_view_of_a_script t) l) (sym c.as_slice.ensures) (views_up_to c.args.scenario.now.steps c.requires.is.views)
+    views_up_to c.args.scenario.steps c.requires.is.views
 
 pub returns-in-Ok-clause-stay : goal.returns-in-Ok-clause-stay
 returns-in-Ok-clause-stay g c =
@@ -80,17 +77,17 @@ returns-in-Ok-clause-stay g c =
     let starts = c.in_ok-world.ensures.starts in
     let holds = c.in_ok-world.ensures.holds kinds c.requires.stocked.1 in
     stay_kept law g.W.Stable.saving kinds start c.args.stables.now c.play-ended.new.stables holds
-    (fresh_pairs law g.W.Stable.saving c.args.stables.now c.args.scenario.now.setup start kinds c.requires.fresh starts holds) c.play-ended.new.world c.play-ended.ensures.keeps
+    (fresh_pairs law g.W.Stable.saving c.args.stables.now c.args.scenario.setup start kinds c.requires.fresh starts holds) c.play-ended.new.world c.play-ended.ensures.keeps
 
-pub returns-in-Err-clause-stay : goal.returns-in-Err-clause-stay
-returns-in-Err-clause-stay g c =
+pub returns-clause-stay : goal.returns-clause-stay
+returns-clause-stay g c =
     let law = g.A.App.law in
     let kinds = c.requires.stocked.0 in
     let start = c.in_ok-world.world in
     let starts = c.in_ok-world.ensures.starts in
     let holds = c.in_ok-world.ensures.holds kinds c.requires.stocked.1 in
     stay_kept law g.W.Stable.saving kinds start c.args.stables.now c.play-ended.new.stables holds
-    (fresh_pairs law g.W.Stable.saving c.args.stables.now c.args.scenario.now.setup start kinds c.requires.fresh starts holds) c.play-ended.new.world c.play-ended.ensures.keeps
+    (fresh_pairs law g.W.Stable.saving c.args.stables.now c.args.scenario.setup start kinds c.requires.fresh starts holds) c.play-ended.new.world c.play-ended.ensures.keeps
 
 pub returns-in_err-world-clause-stay : goal.returns-in_err-world-clause-stay
 returns-in_err-world-clause-stay g c = stay_same g.W.Stable.saving c.args.stables.now

@@ -14,13 +14,13 @@ simulate-requires-clause-fresh g c = subst (λ (l : List _). AreFresh g.W.Stable
 
 pub returns-clause-ends : goal.returns-clause-ends
 returns-clause-ends g c = λ kinds chains.
-    ends_over g.W.Stable.saving kinds c.args.output c.args.scenario.now c.simulate.result c.args.stables.now.len c.args.stables.now.items c.deref_mut.result.now c.simulate.new.stables c.args.stables.now.ok.0 c.deref_mut.ensures.value c.simulate.auto.stables
+    ends_over g.W.Stable.saving kinds c.args.output c.args.scenario c.simulate.result c.args.stables.now.len c.args.stables.now.items c.deref_mut.result.now c.simulate.new.stables c.args.stables.now.ok.0 c.deref_mut.ensures.value c.simulate.auto.stables
     (c.simulate.ensures.ends kinds (c.in_ok-shelves.ensures.stocked kinds chains))
 
 pub returns-clause-unplayed : goal.returns-clause-unplayed
 returns-clause-unplayed g c =
     let kinds = c.requires.chains.0 in
-    run_untouched In_order kinds (StablesTell g.W.Stable.saving c.deref_mut.result.now c.simulate.new.stables) c.args.output c.args.scenario.now c.simulate.result _ _
+    run_untouched In_order kinds (StablesTell g.W.Stable.saving c.deref_mut.result.now c.simulate.new.stables) c.args.output c.args.scenario c.simulate.result _ _
     (c.simulate.ensures.ends kinds (c.in_ok-shelves.ensures.stocked kinds c.requires.chains.1))
 
 pub returns-clause-stay : goal.returns-clause-stay

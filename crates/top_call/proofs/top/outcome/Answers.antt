@@ -31,14 +31,14 @@ returns-in-None-clause-told g c = usage_tells _ _ _ (sym c.in-None.ensures) refl
 
 pub returns-in-Some-Gen-clause-cause : goal.returns-in-Some-Gen-clause-cause
 returns-in-Some-Gen-clause-cause g c = λ kinds chains.
-    made_caused kinds (StablesTell g.W.Stable.saving c.args.stables.now.items c.end_of_scenario-ending.new.stables.items) (map string_bytes c.args.words.now) _ _ _ c.in-Some-Gen.number c.in-Some-Gen.controllers c.in-Some-Gen.switches c.in-Some-Gen.frames c.in_ok-scenario-in-Some-Gen.scenario c.end_of_scenario-ending.result (sym c.in-Some-Gen.ensures ∙ ap (λ s. some_of s) c.in-Some-Gen.field-0-is) refl c.in_ok-scenario-in-Some-Gen.ensures.exact
-    (c.end_of_scenario-ending.ensures.ends kinds chains)
+    made_caused kinds (StablesTell g.W.Stable.saving c.args.stables.now.items c.end_of_scenario.new.stables.items) (map string_bytes c.args.words.now) _ _ _ c.in-Some-Gen.number c.in-Some-Gen.controllers c.in-Some-Gen.switches c.in-Some-Gen.frames c.in_ok-scenario-in-Some-Gen.scenario c.end_of_scenario.result (sym c.in-Some-Gen.ensures ∙ ap (λ s. some_of s) c.in-Some-Gen.field-0-is) refl c.in_ok-scenario-in-Some-Gen.ensures.exact
+    (c.end_of_scenario.ensures.ends kinds chains)
 
 pub returns-in-Some-Gen-clause-told : goal.returns-in-Some-Gen-clause-told
 returns-in-Some-Gen-clause-told g c =
     let kinds = c.requires.chains.0 in
-    made_tells (map string_bytes c.args.words.now) _ _ kinds (StablesTell g.W.Stable.saving c.args.stables.now.items c.end_of_scenario-ending.new.stables.items) c.in-Some-Gen.number c.in-Some-Gen.controllers c.in-Some-Gen.switches c.in-Some-Gen.frames c.in_ok-scenario-in-Some-Gen.scenario LastLine c.end_of_scenario-ending.result (sym c.in-Some-Gen.ensures ∙ ap (λ s. some_of s) c.in-Some-Gen.field-0-is) refl
-    (c.end_of_scenario-ending.ensures.ends kinds c.requires.chains.1)
+    made_tells (map string_bytes c.args.words.now) _ _ kinds (StablesTell g.W.Stable.saving c.args.stables.now.items c.end_of_scenario.new.stables.items) c.in-Some-Gen.number c.in-Some-Gen.controllers c.in-Some-Gen.switches c.in-Some-Gen.frames c.in_ok-scenario-in-Some-Gen.scenario LastLine c.end_of_scenario.result (sym c.in-Some-Gen.ensures ∙ ap (λ s. some_of s) c.in-Some-Gen.field-0-is) refl
+    (c.end_of_scenario.ensures.ends kinds c.requires.chains.1)
 
 pub returns-in-Ok-clause-cause : goal.returns-in-Ok-clause-cause
 returns-in-Ok-clause-cause g c = λ kinds chains.
@@ -63,8 +63,8 @@ returns-in-None-clause-numbers g c = λ kinds chains. usage_of_numbers kinds (St
 
 pub returns-in-Some-Gen-clause-numbers : goal.returns-in-Some-Gen-clause-numbers
 returns-in-Some-Gen-clause-numbers g c = λ kinds chains.
-    made_of_numbers kinds (StablesTell g.W.Stable.saving c.args.stables.now.items c.end_of_scenario-ending.new.stables.items) (map string_bytes c.args.words.now) _ c.in-Some-Gen.number c.in-Some-Gen.controllers c.in-Some-Gen.switches c.in-Some-Gen.frames c.in_ok-scenario-in-Some-Gen.scenario c.end_of_scenario-ending.result (sym c.in-Some-Gen.ensures ∙ ap (λ s. some_of s) c.in-Some-Gen.field-0-is) c.in_ok-scenario-in-Some-Gen.ensures.exact
-    (c.end_of_scenario-ending.ensures.ends kinds chains)
+    made_of_numbers kinds (StablesTell g.W.Stable.saving c.args.stables.now.items c.end_of_scenario.new.stables.items) (map string_bytes c.args.words.now) _ c.in-Some-Gen.number c.in-Some-Gen.controllers c.in-Some-Gen.switches c.in-Some-Gen.frames c.in_ok-scenario-in-Some-Gen.scenario c.end_of_scenario.result (sym c.in-Some-Gen.ensures ∙ ap (λ s. some_of s) c.in-Some-Gen.field-0-is) c.in_ok-scenario-in-Some-Gen.ensures.exact
+    (c.end_of_scenario.ensures.ends kinds chains)
 
 pub returns-in-Ok-clause-numbers : goal.returns-in-Ok-clause-numbers
 returns-in-Ok-clause-numbers g c = λ kinds chains.

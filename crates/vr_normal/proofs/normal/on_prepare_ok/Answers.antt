@@ -8,4 +8,4 @@ pub returns-then-counts-clause-valid : goal.returns-then-counts-clause-valid
 returns-then-counts-clause-valid c =
     let s = c.args.state.now in
     let from = c.args.from in
-    rw c.agreed_op-state.ensures (subst (λ (acked : List ℕ). IsValidState (counted (record s { acked = acked }))) (sym c.raise.ensures) (counted_valid (acked_by s from c.in-PrepareOk.op) (acked_valid s from c.in-PrepareOk.op c.requires)))
+    rw c.agreed_op-state.ensures (subst (λ (acked : List ℕ). IsValidState (counted (record s { acked = acked }))) (sym c.raise.ensures) (counted_valid (acked_by s from c.args.op) (acked_valid s from c.args.op c.requires)))

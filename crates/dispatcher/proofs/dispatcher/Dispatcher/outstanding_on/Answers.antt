@@ -2,6 +2,7 @@ use Rattle.std.proofs.Common.{◌∙◌, ◌≡◌, List, map, filter, ap, subst
 use Rattle.std.specs.Prelude.{IfOk, nat_eq}
 use Rattle.dispatcher.specs.declared.numbered.NumberedOrder.{NumberedOrder}
 use Rattle.dispatcher.specs.Folding.{numbered}
+use Rattle.dispatcher.specs.Few.{values_in}
 use Rattle.dispatcher.specs.Ledger.{Dispatching, StandsFor}
 use Rattle.dispatcher.specs.Marks.{outstanding}
 use Rattle.dispatcher.proofs.Standing.{outstanding_on_is}
@@ -13,4 +14,4 @@ returns g c = λ kinds setup log stands.
     subst (λ d. StandsFor g.A.App.law d kinds setup log) (sym c.self.view_is) stands in
     let is = outstanding_on_is kinds setup log c.self.inside.ledger inside.ledger c.self.inside.marks.marks c.args.switch
     ∙ ap (λ (d : Dispatching _). map (numbered kinds setup log) (filter (λ x. nat_eq x.switch c.args.switch) (outstanding kinds setup log d.marks))) c.self.view_is in
-    subst (λ (l : List NumberedOrder). IfOk c.outstanding_on.result (λ list. list.items ≡ l)) is c.outstanding_on.ensures
+    subst (λ (l : List NumberedOrder). IfOk c.outstanding_on.result (λ list. values_in list ≡ l)) is c.outstanding_on.ensures

@@ -1,41 +1,29 @@
-use Rattle.std.proofs.Common.{◌≤◌, ◌-◌, drop, length, length-drop, arith, ap, sym, ◌∙◌}
-use Rattle.std.proofs.lemmas.List.{drop-drop}
-use Rattle.event_buffer.specs.Buffer.{next_number}
-use Rattle.event_buffer.proofs.Numbers.{numbered_from}
+use Rattle.std.proofs.Common.{◌-◌, length, length-drop, ap, arith}
+use Rattle.event_buffer.specs.Buffer.{Held}
+use Rattle.event_buffer.proofs.Counts.{newest-dropped, numbered-left}
 use Rattle.event_buffer.proofs.buffer.EventBuffer.clear.Goals as goal
 
 pub invariant_of-self : goal.invariant_of-self
 invariant_of-self c =
+    let events = c.self.inside.events.items in
     let inv = c.self.invariant in
-    let held = drop c.self.inside.gone c.self.inside.events.items in
-    let count = c.max-cleared.result - c.self.inside.cleared in
-    let next = c.next_number.ensures ∙ sym (ap next_number c.self.view_is) in
-    let low : c.self.inside.cleared ≤ c.max-cleared.result = omega (arith, next) in
-    let high : count ≤ length held = omega (arith, next) in
-    let size = length-drop count held in
-    rw (c.drop_front.ensures.rest ∙ sym (drop-drop count c.self.inside.gone c.self.inside.events.items)) (
-      record { room = omega (arith, size, inv.0.room); numbered = numbered_from _ _ _ _ _ inv.0.numbered low high; ports = inv.0.ports },
+    let gone = c.len.result - c.count.result in
+    let count = ap (λ (h : Held). h.count) c.clear-count.ensures.after in
+    rw (c.drop_front.ensures.rest, newest-dropped c.clear-count.new.self.count gone events (omega (arith, inv.2, count)), length-drop, c.clear-count.ensures.after) (
+      numbered-left c.self.inside.held c.args.through events inv.2 inv.0,
       omega (arith, inv.1, c.drop_front.ensures.room),
-      omega arith,
-      omega arith,
-      omega (arith, size, next, low, high, inv.4),
+      omega (arith, inv.2, count),
+      omega (arith, inv.2, count),
     )
 
-pub invariant_of-self-else-self-ge-MOST_GONE : goal.invariant_of-self-else-self-ge-MOST_GONE
-invariant_of-self-else-self-ge-MOST_GONE c =
+pub invariant_of-self-else-gone-ge-MOST_GONE : goal.invariant_of-self-else-gone-ge-MOST_GONE
+invariant_of-self-else-gone-ge-MOST_GONE c =
     let inv = c.self.invariant in
-    let held = drop c.self.inside.gone c.self.inside.events.items in
-    let count = c.max-cleared.result - c.self.inside.cleared in
-    let next = c.next_number.ensures ∙ sym (ap next_number c.self.view_is) in
-    let low : c.self.inside.cleared ≤ c.max-cleared.result = omega (arith, next) in
-    let high : count ≤ length held = omega (arith, next) in
-    let size = length-drop count held in
-    let all = length-drop c.self.inside.gone c.self.inside.events.items in
-    let few = c.if-self-ge-MOST_GONE.false in
-    rw (sym (drop-drop count c.self.inside.gone c.self.inside.events.items)) (
-      record { room = omega (arith, size, inv.0.room); numbered = numbered_from _ _ _ _ _ inv.0.numbered low high; ports = inv.0.ports },
+    let few = c.if-gone-ge-MOST_GONE.false in
+    let count = ap (λ (h : Held). h.count) c.clear-count.ensures.after in
+    rw c.clear-count.ensures.after (
+      numbered-left c.self.inside.held c.args.through c.self.inside.events.items inv.2 inv.0,
       inv.1,
-      omega (arith, all, high, inv.2),
-      omega (arith, few),
-      omega (arith, size, next, low, high, inv.4),
+      omega (arith, inv.2),
+      omega (arith, few, count),
     )

@@ -5,7 +5,7 @@ use Rattle.vr_log.specs.Log.{follows}
 use Rattle.dispatcher.specs.Ledger.{AreHandledAt, StandsFor}
 use Rattle.dispatcher.specs.Folding.{places_processed}
 use Rattle.group_controller.specs.Acting.{ActsUpTo}
-use Rattle.group_controller.specs.Handled.{handled_events}
+use Rattle.dispatcher.specs.Few.{values_in}
 use Rattle.group_controller.proofs.Answering.{part_follows, parts_join}
 use Rattle.group_controller.proofs.active.Active.fold_behind.Goals as goal
 
@@ -25,8 +25,8 @@ returns-clause-folds g c = λ kinds setup acts.
     (subst (λ (l : List Entry). follows (take c.args.before log) l ≡ true) (sym is) (part_follows c.args.before commit log inside.reach inside.valid.log.follow)) in
     IfOk-weaker c.fold_new.result _ _
     (λ handled p. (
-      subst (λ (l : List Entry). AreHandledAt kinds setup l (places_processed (drop c.args.before (take commit log))) (handled_events handled)) joined
-          (subst (λ (l : List Entry). AreHandledAt kinds setup (take c.args.before log ++ l) (places_processed l) (handled_events handled)) is p.0),
+      subst (λ (l : List Entry). AreHandledAt kinds setup l (places_processed (drop c.args.before (take commit log))) (values_in handled)) joined
+          (subst (λ (l : List Entry). AreHandledAt kinds setup (take c.args.before log ++ l) (places_processed l) (values_in handled)) is p.0),
       record {
         valid = inside.valid;
         own = inside.own;

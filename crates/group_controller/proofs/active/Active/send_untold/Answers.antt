@@ -1,4 +1,5 @@
 use Rattle.std.proofs.Common.{◌∙◌, Some, ap, map, subst, sym}
+use Rattle.dispatcher.specs.Few.{values_in}
 use Rattle.dispatcher.specs.Folding.{numbered}
 use Rattle.dispatcher.specs.Ledger.{StandsFor}
 use Rattle.dispatcher.specs.Marks.{outstanding}
@@ -18,4 +19,4 @@ returns-in_ok-send g c = λ kinds setup acts.
     let marks = ap (λ (a : Acting _). map (numbered kinds setup log) (outstanding kinds setup log a.dispatcher.marks)) c.self.view_is ∙ ap (λ m. map (numbered kinds setup log) (outstanding kinds setup log m)) (sym acts.marks) in
     subst (λ (b : Acting _). Works g.A.App.law kinds setup now (with_commands kinds setup now.work) (record b { work = record b.work { state = record b.work.state { last_told = Some c.processed-place.result } } }))
     (sym c.self-then-not-was_told.view_is)
-    (untold_does g.A.App.law kinds setup now c.send.new.self c.processed-place.result c.in_ok-commands.commands.items acts is place (c.in_ok-commands.ensures kinds setup log stands ∙ marks) c.in_ok-send.ensures)
+    (untold_does g.A.App.law kinds setup now c.send.new.self c.processed-place.result (values_in c.in_ok-commands.commands) acts is place (c.in_ok-commands.ensures kinds setup log stands ∙ marks) c.in_ok-send.ensures)

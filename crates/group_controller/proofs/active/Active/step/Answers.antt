@@ -18,8 +18,8 @@ fold_behind-requires-clause-reach g c =
     let kinds = c.requires.begins.0 in
     let setup = c.requires.begins.1 in
     let inside = subst (λ (a : Acting _). BeginsTurn g.A.App.law a kinds setup) (sym c.self.view_is) c.requires.begins.2 in
-    let taken = subst (λ (a : Acting _). TakesStep a (vr_step a.work.state.vr c.args.input.now) c.take_step.new.self) (sym c.self.view_is) c.in_ok-take_step.ensures in
-    let s = steps g.A.App.law kinds setup _ c.take_step.new.self c.args.input.now taken.vr taken.out inside taken.valid taken.did taken.takes in
+    let taken = subst (λ (a : Acting _). TakesStep a (vr_step a.work.state.vr c.args.input) c.take_step.new.self) (sym c.self.view_is) c.in_ok-take_step.ensures in
+    let s = steps g.A.App.law kinds setup _ c.take_step.new.self c.args.input taken.vr taken.out inside taken.valid taken.did taken.takes in
     subst (λ (n : ℕ). n ≤ c.take_step.new.self.work.state.vr.commit) (sym c.committed-before.ensures) s.acts.reach
 
 pub fold_unanswered-requires-clause-reach : goal.fold_unanswered-requires-clause-reach
@@ -27,8 +27,8 @@ fold_unanswered-requires-clause-reach g c =
     let kinds = c.requires.begins.0 in
     let setup = c.requires.begins.1 in
     let inside = subst (λ (a : Acting _). BeginsTurn g.A.App.law a kinds setup) (sym c.self.view_is) c.requires.begins.2 in
-    let taken = subst (λ (a : Acting _). TakesStep a (vr_step a.work.state.vr c.args.input.now) c.take_step.new.self) (sym c.self.view_is) c.in_ok-take_step.ensures in
-    let s = steps g.A.App.law kinds setup _ c.take_step.new.self c.args.input.now taken.vr taken.out inside taken.valid taken.did taken.takes in
+    let taken = subst (λ (a : Acting _). TakesStep a (vr_step a.work.state.vr c.args.input) c.take_step.new.self) (sym c.self.view_is) c.in_ok-take_step.ensures in
+    let s = steps g.A.App.law kinds setup _ c.take_step.new.self c.args.input taken.vr taken.out inside taken.valid taken.did taken.takes in
     subst (λ (n : ℕ). n ≤ c.take_step.new.self.work.state.vr.commit) (sym c.committed-before.ensures) s.acts.reach
 
 pub start_view-requires-clause-acts : goal.start_view-requires-clause-acts
@@ -38,9 +38,9 @@ start_view-requires-clause-acts g c =
     let begins = c.requires.begins.2 in
     let inside = subst (λ (a : Acting _). BeginsTurn g.A.App.law a kinds setup) (sym c.self.view_is) begins in
     let old = c.self.inside.replica in
-    let step = vr_step old c.args.input.now in
-    let taken = subst (λ (a : Acting _). TakesStep a (vr_step a.work.state.vr c.args.input.now) c.take_step.new.self) (sym c.self.view_is) c.in_ok-take_step.ensures in
-    let s = steps g.A.App.law kinds setup _ c.take_step.new.self c.args.input.now taken.vr taken.out inside taken.valid taken.did taken.takes in
+    let step = vr_step old c.args.input in
+    let taken = subst (λ (a : Acting _). TakesStep a (vr_step a.work.state.vr c.args.input) c.take_step.new.self) (sym c.self.view_is) c.in_ok-take_step.ensures in
+    let s = steps g.A.App.law kinds setup _ c.take_step.new.self c.args.input taken.vr taken.out inside taken.valid taken.did taken.takes in
     let upto = subst (λ (n : ℕ). ActsUpTo g.A.App.law n c.take_step.new.self kinds setup) (sym c.committed-before.ensures) s.acts in
     let folded = c.in_ok-processed.ensures.folds kinds setup upto in
     let d = c.fold_behind.new.self in
@@ -54,9 +54,9 @@ start_view-requires-clause-leads g c =
     let begins = c.requires.begins.2 in
     let inside = subst (λ (a : Acting _). BeginsTurn g.A.App.law a kinds setup) (sym c.self.view_is) begins in
     let old = c.self.inside.replica in
-    let step = vr_step old c.args.input.now in
-    let taken = subst (λ (a : Acting _). TakesStep a (vr_step a.work.state.vr c.args.input.now) c.take_step.new.self) (sym c.self.view_is) c.in_ok-take_step.ensures in
-    let s = steps g.A.App.law kinds setup _ c.take_step.new.self c.args.input.now taken.vr taken.out inside taken.valid taken.did taken.takes in
+    let step = vr_step old c.args.input in
+    let taken = subst (λ (a : Acting _). TakesStep a (vr_step a.work.state.vr c.args.input) c.take_step.new.self) (sym c.self.view_is) c.in_ok-take_step.ensures in
+    let s = steps g.A.App.law kinds setup _ c.take_step.new.self c.args.input taken.vr taken.out inside taken.valid taken.did taken.takes in
     let upto = subst (λ (n : ℕ). ActsUpTo g.A.App.law n c.take_step.new.self kinds setup) (sym c.committed-before.ensures) s.acts in
     let folded = c.in_ok-processed.ensures.folds kinds setup upto in
     let d = c.fold_behind.new.self in
@@ -72,9 +72,9 @@ pub returns-then-has_started : goal.returns-then-has_started
 returns-then-has_started g c = λ kinds setup begins.
     let inside = subst (λ (a : Acting _). BeginsTurn g.A.App.law a kinds setup) (sym c.self.view_is) begins in
     let old = c.self.inside.replica in
-    let step = vr_step old c.args.input.now in
-    let taken = subst (λ (a : Acting _). TakesStep a (vr_step a.work.state.vr c.args.input.now) c.take_step.new.self) (sym c.self.view_is) c.in_ok-take_step.ensures in
-    let s = steps g.A.App.law kinds setup _ c.take_step.new.self c.args.input.now taken.vr taken.out inside taken.valid taken.did taken.takes in
+    let step = vr_step old c.args.input in
+    let taken = subst (λ (a : Acting _). TakesStep a (vr_step a.work.state.vr c.args.input) c.take_step.new.self) (sym c.self.view_is) c.in_ok-take_step.ensures in
+    let s = steps g.A.App.law kinds setup _ c.take_step.new.self c.args.input taken.vr taken.out inside taken.valid taken.did taken.takes in
     let upto = subst (λ (n : ℕ). ActsUpTo g.A.App.law n c.take_step.new.self kinds setup) (sym c.committed-before.ensures) s.acts in
     let folded = c.in_ok-processed.ensures.folds kinds setup upto in
     let d = c.fold_behind.new.self in
@@ -84,20 +84,20 @@ returns-then-has_started g c = λ kinds setup begins.
     let leading : true ≡ leads step.state = sym c.if-not-leads.false ∙ c.leads.ensures ∙ ap (λ (a : Acting _). leads a.work.state.vr) c.self-2.view_is ∙ ap (λ (w : Work). leads w.state.vr) s.work_is in
     let started = started_is old step.state c.has_started.result true c.leads-led.result c.view-view.result c.view.result c.has_started.ensures leading c.leads-led.ensures c.view-view.ensures
     (c.view.ensures ∙ ap (λ (a : Acting _). a.work.state.vr.view) known ∙ ap (λ (v : VrState). v.view) is) in
-    subst (λ (a : Acting _). OnOk c.start_view.result (Works g.A.App.law kinds setup a (after_step kinds setup a.work.state (vr_step a.work.state.vr c.args.input.now)) c.start_view.new.self)) c.self.view_is
+    subst (λ (a : Acting _). OnOk c.start_view.result (Works g.A.App.law kinds setup a (after_step kinds setup a.work.state (vr_step a.work.state.vr c.args.input)) c.start_view.new.self)) c.self.view_is
     (on_ok_weaker c.start_view.result (λ rest. step_starts g.A.App.law kinds setup _ d c.start_view.new.self step first (started ∙ c.if-has_started.true) rest) (c.start_view.ensures kinds setup folded.1))
 
 pub returns-then-not-leads : goal.returns-then-not-leads
 returns-then-not-leads g c = λ kinds setup begins.
     let inside = subst (λ (a : Acting _). BeginsTurn g.A.App.law a kinds setup) (sym c.self.view_is) begins in
     let old = c.self.inside.replica in
-    let step = vr_step old c.args.input.now in
-    let taken = subst (λ (a : Acting _). TakesStep a (vr_step a.work.state.vr c.args.input.now) c.take_step.new.self) (sym c.self.view_is) c.in_ok-take_step.ensures in
-    let s = steps g.A.App.law kinds setup _ c.take_step.new.self c.args.input.now taken.vr taken.out inside taken.valid taken.did taken.takes in
+    let step = vr_step old c.args.input in
+    let taken = subst (λ (a : Acting _). TakesStep a (vr_step a.work.state.vr c.args.input) c.take_step.new.self) (sym c.self.view_is) c.in_ok-take_step.ensures in
+    let s = steps g.A.App.law kinds setup _ c.take_step.new.self c.args.input taken.vr taken.out inside taken.valid taken.did taken.takes in
     let upto = subst (λ (n : ℕ). ActsUpTo g.A.App.law n c.take_step.new.self kinds setup) (sym c.committed-before.ensures) s.acts in
     let d = c.fold_unanswered.new.self in
     let off : leads step.state ≡ false = sym (c.leads.ensures ∙ ap (λ (a : Acting _). leads a.work.state.vr) c.self-2.view_is ∙ ap (λ (w : Work). leads w.state.vr) s.work_is) ∙ c.if-not-leads.true in
-    subst (λ (a : Acting _). OnOk c.fold_unanswered.result (Works g.A.App.law kinds setup a (after_step kinds setup a.work.state (vr_step a.work.state.vr c.args.input.now)) d)) c.self.view_is
+    subst (λ (a : Acting _). OnOk c.fold_unanswered.result (Works g.A.App.law kinds setup a (after_step kinds setup a.work.state (vr_step a.work.state.vr c.args.input)) d)) c.self.view_is
     (on_ok_weaker c.fold_unanswered.result
     (λ acts. step_rests g.A.App.law kinds setup _ d step
     (folded_does g.A.App.law kinds setup _ c.take_step.new.self d step s acts c.fold_unanswered.ensures.work c.fold_unanswered.ensures.promise)
@@ -111,9 +111,9 @@ settle-requires-clause-acts g c =
     let begins = c.requires.begins.2 in
     let inside = subst (λ (a : Acting _). BeginsTurn g.A.App.law a kinds setup) (sym c.self.view_is) begins in
     let old = c.self.inside.replica in
-    let step = vr_step old c.args.input.now in
-    let taken = subst (λ (a : Acting _). TakesStep a (vr_step a.work.state.vr c.args.input.now) c.take_step.new.self) (sym c.self.view_is) c.in_ok-take_step.ensures in
-    let s = steps g.A.App.law kinds setup _ c.take_step.new.self c.args.input.now taken.vr taken.out inside taken.valid taken.did taken.takes in
+    let step = vr_step old c.args.input in
+    let taken = subst (λ (a : Acting _). TakesStep a (vr_step a.work.state.vr c.args.input) c.take_step.new.self) (sym c.self.view_is) c.in_ok-take_step.ensures in
+    let s = steps g.A.App.law kinds setup _ c.take_step.new.self c.args.input taken.vr taken.out inside taken.valid taken.did taken.takes in
     let upto = subst (λ (n : ℕ). ActsUpTo g.A.App.law n c.take_step.new.self kinds setup) (sym c.committed-before.ensures) s.acts in
     let folded = c.in_ok-processed.ensures.folds kinds setup upto in
     let d = c.fold_behind.new.self in
@@ -128,9 +128,9 @@ pub returns-then-before-committed : goal.returns-then-before-committed
 returns-then-before-committed g c = λ kinds setup begins.
     let inside = subst (λ (a : Acting _). BeginsTurn g.A.App.law a kinds setup) (sym c.self.view_is) begins in
     let old = c.self.inside.replica in
-    let step = vr_step old c.args.input.now in
-    let taken = subst (λ (a : Acting _). TakesStep a (vr_step a.work.state.vr c.args.input.now) c.take_step.new.self) (sym c.self.view_is) c.in_ok-take_step.ensures in
-    let s = steps g.A.App.law kinds setup _ c.take_step.new.self c.args.input.now taken.vr taken.out inside taken.valid taken.did taken.takes in
+    let step = vr_step old c.args.input in
+    let taken = subst (λ (a : Acting _). TakesStep a (vr_step a.work.state.vr c.args.input) c.take_step.new.self) (sym c.self.view_is) c.in_ok-take_step.ensures in
+    let s = steps g.A.App.law kinds setup _ c.take_step.new.self c.args.input taken.vr taken.out inside taken.valid taken.did taken.takes in
     let upto = subst (λ (n : ℕ). ActsUpTo g.A.App.law n c.take_step.new.self kinds setup) (sym c.committed-before.ensures) s.acts in
     let folded = c.in_ok-processed.ensures.folds kinds setup upto in
     let d = c.fold_behind.new.self in
@@ -143,16 +143,16 @@ returns-then-before-committed g c = λ kinds setup begins.
     let more = is_settling old step.state c.committed-before.result c.committed.result _ (sym leading) c.committed-before.ensures
     (c.committed.ensures ∙ ap (λ (a : Acting _). a.work.state.vr.commit) known ∙ ap (λ (v : VrState). v.commit) is) (lt-ltb c.committed-before.result c.committed.result c.if-before-committed.true) in
     let new = subst (λ (n : ℕ). AreNewlyHandled kinds setup d.work.state n c.as_slice.result.now) c.committed-before.ensures (subst (λ l. AreNewlyHandled kinds setup d.work.state c.committed-before.result l) (sym c.as_slice.ensures) folded.0) in
-    subst (λ (a : Acting _). OnOk c.settle.result (Works g.A.App.law kinds setup a (after_step kinds setup a.work.state (vr_step a.work.state.vr c.args.input.now)) c.settle.new.self)) c.self.view_is
+    subst (λ (a : Acting _). OnOk c.settle.result (Works g.A.App.law kinds setup a (after_step kinds setup a.work.state (vr_step a.work.state.vr c.args.input)) c.settle.new.self)) c.self.view_is
     (on_ok_weaker c.settle.result (λ rest. step_settles g.A.App.law kinds setup _ d c.settle.new.self step first (started ∙ c.if-has_started.false) more rest) (c.settle.ensures kinds setup folded.1 old.commit new))
 
 pub returns : goal.returns
 returns g c = λ kinds setup begins.
     let inside = subst (λ (a : Acting _). BeginsTurn g.A.App.law a kinds setup) (sym c.self.view_is) begins in
     let old = c.self.inside.replica in
-    let step = vr_step old c.args.input.now in
-    let taken = subst (λ (a : Acting _). TakesStep a (vr_step a.work.state.vr c.args.input.now) c.take_step.new.self) (sym c.self.view_is) c.in_ok-take_step.ensures in
-    let s = steps g.A.App.law kinds setup _ c.take_step.new.self c.args.input.now taken.vr taken.out inside taken.valid taken.did taken.takes in
+    let step = vr_step old c.args.input in
+    let taken = subst (λ (a : Acting _). TakesStep a (vr_step a.work.state.vr c.args.input) c.take_step.new.self) (sym c.self.view_is) c.in_ok-take_step.ensures in
+    let s = steps g.A.App.law kinds setup _ c.take_step.new.self c.args.input taken.vr taken.out inside taken.valid taken.did taken.takes in
     let upto = subst (λ (n : ℕ). ActsUpTo g.A.App.law n c.take_step.new.self kinds setup) (sym c.committed-before.ensures) s.acts in
     let folded = c.in_ok-processed.ensures.folds kinds setup upto in
     let d = c.fold_behind.new.self in
@@ -164,5 +164,5 @@ returns g c = λ kinds setup begins.
     (c.view.ensures ∙ ap (λ (a : Acting _). a.work.state.vr.view) known ∙ ap (λ (v : VrState). v.view) is) in
     let none = is_settling old step.state c.committed-before.result c.committed.result _ (sym leading) c.committed-before.ensures
     (c.committed.ensures ∙ ap (λ (a : Acting _). a.work.state.vr.commit) known ∙ ap (λ (v : VrState). v.commit) is) (le-ltb c.committed-before.result c.committed.result c.if-before-committed.false) in
-    subst (λ (a : Acting _). (Works g.A.App.law kinds setup a (after_step kinds setup a.work.state (vr_step a.work.state.vr c.args.input.now)) d)) c.self.view_is
+    subst (λ (a : Acting _). (Works g.A.App.law kinds setup a (after_step kinds setup a.work.state (vr_step a.work.state.vr c.args.input)) d)) c.self.view_is
     (step_rests g.A.App.law kinds setup _ d step first (started ∙ c.if-has_started.false) none)

@@ -1,4 +1,5 @@
 use Rattle.std.proofs.Common.{◌∙◌, ap, map, subst, sym}
+use Rattle.dispatcher.specs.Few.{values_in}
 use Rattle.dispatcher.specs.Folding.{numbered}
 use Rattle.dispatcher.specs.Ledger.{StandsFor}
 use Rattle.dispatcher.specs.Marks.{outstanding}
@@ -28,5 +29,5 @@ returns-in_ok-send g c = λ kinds setup begins.
     let log = committed c.take_step.new.self.work.state in
     let stands = subst (λ (a : Acting _). StandsFor g.A.App.law a.dispatcher kinds setup log) (sym (c.self-then-leads.view_is ∙ asked)) acts.stands in
     let marks = ap (λ (a : Acting _). map (numbered kinds setup log) (outstanding kinds setup log a.dispatcher.marks)) (c.self-then-leads.view_is ∙ asked) ∙ ap (λ m. map (numbered kinds setup log) (outstanding kinds setup log m)) (sym acts.marks) in
-    tick_does g.A.App.law kinds setup now c.take_step.new.self c.ask_unconfirmed.new.self c.send.new.self c.in_ok-commands.commands.items s (sym (c.leads.ensures ∙ ap (λ (a : Acting _). leads a.work.state.vr) c.self.view_is) ∙ c.if-leads.true) asked
-    (c.in_ok-commands.ensures kinds setup log stands ∙ marks) (c.in_ok-send.ensures ∙ ap (λ (a : Acting _). posts_letters c.ask_unconfirmed.new.self (map (command_letter a.work.state.vr.view) c.in_ok-commands.commands.items)) asked)
+    tick_does g.A.App.law kinds setup now c.take_step.new.self c.ask_unconfirmed.new.self c.send.new.self (values_in c.in_ok-commands.commands) s (sym (c.leads.ensures ∙ ap (λ (a : Acting _). leads a.work.state.vr) c.self.view_is) ∙ c.if-leads.true) asked
+    (c.in_ok-commands.ensures kinds setup log stands ∙ marks) (c.in_ok-send.ensures ∙ ap (λ (a : Acting _). posts_letters c.ask_unconfirmed.new.self (map (command_letter a.work.state.vr.view) (values_in c.in_ok-commands.commands))) asked)

@@ -1,20 +1,25 @@
-use Rattle.std.proofs.Common.{Result, Ok, Err, OnOk, ◌≡◌, ◌++◌, [], map, drop, sym, ap, ◌∙◌}
+use Rattle.std.proofs.Common.{◌≡◌, [], map, take, drop, sym, ap, ◌∙◌}
+use Rattle.list_facts.proofs.Prefixes.{prefix_take}
 use Rattle.journal.specs.Entries.{EntriesState, whole_entry}
-use Rattle.journal.proofs.Heads.{drop_seam, entries_kept, same_entries}
+use Rattle.journal.proofs.Heads.{drop_seam, drop_taken, entries_kept, entries_left, same_entries}
 use Rattle.journal.proofs.entries.Entries.prepare.Goals as goal
 
-on_ok : {T E : Type 0} (r : Result T E) (P Q : Type 0) → (P → Q) → OnOk r P → OnOk r Q
-on_ok (Ok x) P Q made h = made h
-on_ok (Err e) P Q made h = tt
-
-pub returns-clause-ok : goal.returns-clause-ok
-returns-clause-ok g c =
+pub returns-in-Ok-clause-ok : goal.returns-in-Ok-clause-ok
+returns-in-Ok-clause-ok g c =
     let inside = c.self.inside in
     let heads = inside.heads.items in
-    let more = c.args.letters.now in
+    let more = g.P.Outgoing.letters c.args.post.now in
     let none : drop inside.posted inside.letters ≡ [] = ap (λ (e : EntriesState _). e.coming) c.self.view_is ∙ c.requires in
-    rw (← c.self.view_is)
-    (on_ok c.append.result _ _ (λ letters.
-    let items = ap (λ ls. map (whole_entry ls) heads) letters ∙ entries_kept 0 heads inside.posted inside.letters more c.self.invariant.1 c.self.invariant.0 in
-    let coming = ap (drop inside.posted) letters ∙ drop_seam inside.posted inside.letters more c.self.invariant.0 none in
-    same_entries _ _ _ _ _ _ items coming) c.append.ensures.ok)
+    let items = ap (λ ls. map (whole_entry ls) heads) c.in-Ok.ensures.ok ∙ entries_kept 0 heads inside.posted inside.letters more c.self.invariant.1 c.self.invariant.0 in
+    let coming = ap (drop inside.posted) c.in-Ok.ensures.ok ∙ drop_seam inside.posted inside.letters more c.self.invariant.0 none in
+    rw (← c.self.view_is) (same_entries _ _ _ _ _ _ items coming)
+
+pub returns-in-Err-clause-err : goal.returns-in-Err-clause-err
+returns-in-Err-clause-err g c =
+    let inside = c.self.inside in
+    let heads = inside.heads.items in
+    let none : drop inside.posted inside.letters ≡ [] = ap (λ (e : EntriesState _). e.coming) c.self.view_is ∙ c.requires in
+    let cut = c.truncate.ensures ∙ sym (prefix_take inside.posted c.in-Err.ensures.err c.self.invariant.0) in
+    let items = ap (λ ls. map (whole_entry ls) heads) cut ∙ entries_left heads inside.posted inside.letters c.self.invariant.1 c.self.invariant.0 in
+    let coming = ap (drop inside.posted) cut ∙ drop_taken inside.posted inside.letters ∙ sym none in
+    same_entries _ _ _ _ _ _ items coming ∙ c.self.view_is

@@ -1,4 +1,4 @@
-use Rattle.std.proofs.Common.{Result, Ok, Err, OnErr, Option, ◌≡◌, ◌≤◌, ◌-◌, ◌++◌, None, length, map, take, replicate, subst, sym, ap, ◌∙◌, arith}
+use Rattle.std.proofs.Common.{Result, Ok, Err, OnErr, ◌≡◌, ◌≤◌, ◌-◌, ◌++◌, None, length, map, take, replicate, subst, sym, ap, ◌∙◌, arith}
 use Rattle.std.specs.Prelude.{Some}
 use Rattle.journal.specs.Order.{HaveNumbersBelow, IsLowest, addressed, awaited}
 use Rattle.journal.proofs.Slots.{clear_resized, kept_resized, letters_wait, long_resized, lowest_letters}

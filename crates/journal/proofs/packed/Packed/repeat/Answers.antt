@@ -1,7 +1,6 @@
-use Rattle.std.proofs.Common.{◌≡◌, ◌<◌, [], ◌∷◌, ◌++◌, length, map, take, take_all, refl, ap, ◌∙◌, arith}
+use Rattle.std.proofs.Common.{◌<◌, length, map, take_all, refl, ap, ◌∙◌, arith}
 use Rattle.std.proofs.lemmas.List.{length-map}
 use Rattle.std.proofs.lemmas.Option.{slice_get_read}
-use Rattle.journal.specs.declared.journal.Letter.{Letter}
 use Rattle.journal.specs.declared.packed.Slip.{Slip}
 use Rattle.journal.specs.Mailbags.{body_of, letter_of}
 use Rattle.journal.proofs.Lists.{if_at, map_at}

@@ -18,10 +18,10 @@ pub returns-in-Err-clause-err : goal.returns-in-Err-clause-err
 returns-in-Err-clause-err g c = λ a.
     let letters = take c.args.count c.args.letters.now in
     let start = queue_of c.args.self.now a in
-    let sent = sent_to a (placed c.args.entry 0 c.args.first c.args.from letters) in
+    let sent = sent_to a (placed c.args.first c.args.from letters) in
     let now = other_order c.push_each.new.self c.append.new.self a ∙ c.in_ok-push_each.ensures.ok a in
     let count : length (start ++ sent) - length (letters_to a letters) ≡ length start =
-    omega (arith, length-append start sent, length-sent a c.args.entry 0 c.args.first c.args.from letters) in
+    omega (arith, length-append start sent, length-sent a c.args.first c.args.from letters) in
     c.pop_each.ensures.queues a
     ∙ ap (λ q. take (length q - length (letters_to a letters)) q) now
     ∙ ap (λ n. take n (start ++ sent)) count

@@ -1,4 +1,4 @@
-use Rattle.std.proofs.Common.{◌≡◌, ◌<◌, ◌-◌, ◌++◌, length, take, ap, ◌∙◌, arith, sym}
+use Rattle.std.proofs.Common.{◌≡◌, ◌<◌, ◌-◌, length, take, ap, ◌∙◌, arith, sym}
 use Rattle.std.specs.Prelude.{if◌then◌else◌}
 use Rattle.journal.specs.Actors.{same_actor}
 use Rattle.journal.specs.Places.{letters_to, queue_of}

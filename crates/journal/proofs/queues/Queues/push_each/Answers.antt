@@ -15,10 +15,10 @@ pub returns-in-Err-clause-err : goal.returns-in-Err-clause-err
 returns-in-Err-clause-err g c = λ a.
     let before = take c.loop-letter.letter c.args.letters.now in
     let start = queue_of c.args.self.now a in
-    let sent = sent_to a (placed c.args.entry 0 c.args.first c.args.from before) in
+    let sent = sent_to a (placed c.args.first c.args.from before) in
     let now : queue_of c.push.new.self a ≡ start ++ sent = c.in-Err.ensures.err a ∙ c.loop-letter.invariant.queues a in
     let count : length (start ++ sent) - length (letters_to a before) ≡ length start =
-    omega (arith, length-append start sent, length-sent a c.args.entry 0 c.args.first c.args.from before) in
+    omega (arith, length-append start sent, length-sent a c.args.first c.args.from before) in
     c.pop_each.ensures.queues a
     ∙ ap (λ q. take (length q - length (letters_to a before)) q) now
     ∙ ap (λ n. take n (start ++ sent)) count
@@ -30,14 +30,14 @@ loop-letter-preserved g c =
     let index = c.loop-letter.letter in
     let within : index < length letters = omega (arith, c.loop-letter-test.true, c.requires.within) in
     let here = at_index (λ l. c.receiver.result ≡ l.to) letters index within c.receiver.ensures in
-    let place : Actor → PacketPlace = λ to. record { id = c.args.first + index; from = c.args.from; to = to; entry = c.args.entry; letter = index } in
-    let before = placed c.args.entry 0 c.args.first c.args.from (take index letters) in
+    let place : Actor → PacketPlace = λ to. record { id = c.args.first + index; from = c.args.from; to = to } in
+    let before = placed c.args.first c.args.from (take index letters) in
     record {
       queues = λ a.
           pushed_more (λ place. same_actor place.to a) (queue_of c.args.self.now a) before (place c.receiver.result) (queue_of c.loop-letter.self a) (queue_of c.push.new.self a)
           (c.loop-letter.invariant.queues a) (c.in_default.ensures.ok a)
           ∙ ap (λ to. queue_of c.args.self.now a ++ sent_to a (before ++ place to ∷ [])) here.2
           ∙ ap (λ places. queue_of c.args.self.now a ++ sent_to a places)
-          (sym (placed_next c.args.entry c.args.first c.args.from letters index here.0 within (sym (get_or_from_slice_get letters index here.0 here.0 here.1))));
+          (sym (placed_next c.args.first c.args.from letters index here.0 within (sym (get_or_from_slice_get letters index here.0 here.0 here.1))));
       order = c.push.ensures.order ∙ c.loop-letter.invariant.order;
     }

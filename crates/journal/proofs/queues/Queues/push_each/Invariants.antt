@@ -5,6 +5,6 @@ use Rattle.journal.proofs.queues.Queues.push_each.Given as goal
 
 abbrev pub invariant-loop-letter : goal.invariant-loop-letter
 invariant-loop-letter g l = record {
-  queues : (a : Actor) → queue_of l.self a ≡ queue_of l.fn.self a ++ sent_to a (placed l.entry 0 l.first l.from (take l.letter l.letters));
+  queues : (a : Actor) → queue_of l.self a ≡ queue_of l.fn.self a ++ sent_to a (placed l.first l.from (take l.letter l.letters));
   order : l.self.order ≡ l.fn.self.order;
 }

@@ -11,10 +11,10 @@ use Rattle.of_switch.specs.Commands.{letter_of_result, executes, settled, result
 use Rattle.of_switch.specs.Drafts.{Draft, draft_of, sent_as}
 use Rattle.of_switch.proofs.Turns.{packet-executed}
 use Rattle.of_switch.proofs.switch.Switch.send_packet.Goals as goal
-use Rattle.of_switch.proofs.switch.Switch.send_packet.Goals.{After-drop-parts-2}
+use Rattle.of_switch.proofs.switch.Switch.send_packet.Goals.{After-drop-parts}
 
 -- the switch has done it
-turn-is : (c : After-drop-parts-2) →
+turn-is : (c : After-drop-parts) →
     posts (record (the_view c.self.inside) { sent = c.into_parts-parts.result.sent; results = c.count.new.results; executed = c.push_reserved.new.self.items }) c.from_vec.result
     ≡ executes (settled c.args.self.now c.args.command.settled) c.args.command.from c.args.command.generation c.args.command.number (order.PacketOut c.args.out)
 turn-is c =

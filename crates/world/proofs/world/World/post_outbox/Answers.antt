@@ -1,6 +1,5 @@
-use Rattle.std.proofs.Common.{◌≡◌, ◌++◌, List, refl, sym, ◌∙◌, ap, subst}
+use Rattle.std.proofs.Common.{◌≡◌, ◌++◌, refl, sym, ◌∙◌, ap, subst}
 use Rattle.std.proofs.lemmas.Result.{err_from_is_err_and}
-use Rattle.journal.specs.declared.journal.Letter.{Letter}
 use Rattle.journal.specs.Answers.{RefusedBy}
 use Rattle.journal.specs.Orderly.{IsOrderly}
 use Rattle.journal.specs.Pool.{past}
@@ -18,13 +17,12 @@ returns-clause-holds g c = λ kinds h.
     let d = sealed_outbox sealing c.in-Some.outbox in
     let weighed = g.met.B.Body.weighed in
     let before = c.self.inside.wire in
-    let letters_are = c.in_ok-actor.ensures.letters ∙ ap (λ (l : List (Letter _)). l ++ d.letters) c.clear.ensures in
-    post_holds law sealing g.met.B.Body.faithful _ d (ap (λ o. owing sealing o) c.in-Some.is) c.post.new.self
+    subst (λ w. Holds law sealing w kinds) (sym c.settle.ensures)
+    (post_holds law sealing g.met.B.Body.faithful _ d (ap (λ o. owing sealing o) c.in-Some.is) c.post.new.self
     (subst (λ z. c.post.new.self ≡ before ++ posting z d.actor d.letters (past before)) weighed
-    (subst (λ a. c.post.new.self ≡ before ++ posting g.B.Weight.size a d.letters (past before)) c.in_ok-actor.ensures.actor
-    (subst (λ l. c.post.new.self ≡ before ++ posting g.B.Weight.size c.in_ok-actor.actor l (past before)) letters_are c.in_ok-post.ensures.ok)))
+    (subst (λ a. c.post.new.self ≡ before ++ posting g.B.Weight.size a d.letters (past before)) c.sender.ensures c.in_ok-post.ensures.ok))
     (subst (λ z. IsOrderly z (past c.post.new.self)) weighed c.lawful-2.ensures.orderly) _ refl kinds
-    (subst (λ w. Holds law sealing w kinds) (sym c.self.view_is) h)
+    (subst (λ w. Holds law sealing w kinds) (sym c.self.view_is) h))
 
 pub returns-in_err-post-clause-stops : goal.returns-in_err-post-clause-stops
 returns-in_err-post-clause-stops g c =
@@ -32,10 +30,8 @@ returns-in_err-post-clause-stops g c =
     let d = sealed_outbox sealing c.in-Some.outbox in
     let before = c.self.inside.wire in
     let stop = c.in_err-post.field-0.0 in
-    let letters_are = c.in_ok-actor.ensures.letters ∙ ap (λ (l : List (Letter _)). l ++ d.letters) c.clear.ensures in
-    let refused = subst (λ z. RefusedBy z stop d.letters (past before)) g.met.B.Body.weighed
-    (subst (λ l. RefusedBy g.B.Weight.size stop l (past before)) letters_are c.in_err-post.ensures.err.1) in
-    let p = err_from_is_err_and c.from_residual-in_err-post.result c.from_residual-in_err-post.ensures.1 in
+    let refused = subst (λ z. RefusedBy z stop d.letters (past before)) g.met.B.Body.weighed c.in_err-post.ensures.err.1 in
+    let p = err_from_is_err_and c.from_residual.result c.from_residual.ensures.1 in
     rw (p.1, p.2) (
       rw c.in_err-post.ensures.err.0 c.self.view_is,
       post_refused sealing.size c.args.self.now d (sym (ap (λ w. w.owed) c.self.view_is) ∙ ap (λ o. owing sealing o) c.in-Some.is) stop

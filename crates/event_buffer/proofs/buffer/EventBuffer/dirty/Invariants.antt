@@ -1,5 +1,0 @@
-use Rattle.std.proofs.Common.{◌≡◌, take}
-use Rattle.event_buffer.proofs.buffer.EventBuffer.dirty.Given as goal
-
-abbrev pub invariant-loop-port : goal.invariant-loop-port
-invariant-loop-port l = l.wide.items ≡ take l.port-index l.port-items

@@ -33,6 +33,7 @@ impl<T: Drop> Few<T> {
     }
 
     /// Adds a value. After an `Err` the values are to be dropped.
+    #[inline(always)]
     pub fn push(&mut self, alloc: Global, value: T) -> Result<(), AllocError>
         ensures { OnOk result (values_in self.new ≡ values_in self.old ++ value ∷ []) }
     {

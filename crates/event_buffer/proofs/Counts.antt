@@ -1,16 +1,13 @@
--- The buffer that holds the newest of some events.
-use Rattle.std.proofs.Common.{◌≡◌, ◌≤◌, ℕ, ◌+◌, ◌-◌, List, ◌++◌, length, drop, length-append, length-drop, sym, ◌∙◌, ap, refl, arith}
+-- The newest of some events.
+use Rattle.std.proofs.Common.{◌≡◌, ◌≤◌, ℕ, ◌+◌, ◌-◌, List, ◌++◌, length, drop, length-append, length-drop, sym, ◌∙◌, ap, arith}
 use Rattle.std.proofs.lemmas.List.{drop-append-le, drop-drop}
 use Rattle.of_types.specs.declared.message.Event.{Event}
-use Rattle.event_buffer.specs.Buffer.{Held, newest, buffer_of, counted, with_left, without_events_below, left_below, AreNumbered}
+use Rattle.event_buffer.specs.Buffer.{Held, newest, with_left, left_below, AreNumbered}
 use Rattle.event_buffer.proofs.Numbers.{numbered_from}
 
 -- as many are held as are counted
 pub newest-count : (count : ℕ) (events : List Event) → count ≤ length events → length (newest count events) ≡ count
 newest-count count events h = let size = length-drop (length events - count) events in omega (arith, size, h)
-
-pub counted-again : (h : Held) (events : List Event) → h.count ≤ length events → counted (buffer_of h events) ≡ h
-counted-again h events k = ap (λ (n : ℕ). record h { count = n }) (newest-count h.count events k)
 
 -- more events are held with those that join the list
 pub newest-joined : (count more : ℕ) (events joining : List Event) → count ≤ length events → more ≡ length joining → newest (count + more) (events ++ joining) ≡ newest count events ++ joining
@@ -24,11 +21,6 @@ pub newest-left : (count left : ℕ) (events : List Event) → count ≤ length 
 newest-left count left events h k =
     let past : length events - (count - left) ≡ length events - count + left = omega (arith, h, k) in
     ap (λ (n : ℕ). drop n events) past ∙ sym (drop-drop left (length events - count) events)
-
--- the events below a number leave
-pub left-of : (h : Held) (through : ℕ) (events : List Event) → h.count ≤ length events → buffer_of (with_left h through) events ≡ without_events_below (buffer_of h events) through
-left-of h through events k =
-    rw (newest-count h.count events k, newest-left h.count (left_below h through - h.cleared) events k (omega (arith, k))) refl
 
 -- and those that have left stay out
 pub newest-dropped : (count gone : ℕ) (events : List Event) → gone + count ≤ length events → newest count (drop gone events) ≡ newest count events

@@ -28,7 +28,7 @@ pub struct Controller<A> {
     /// Its number in the group.
     me: u8,
     setup: Setup,
-    /// Boxed, since it takes almost two thousand bytes, and each turn hands it on by value four times.
+    /// Boxed, since it takes almost two thousand bytes, and a group has up to seven.
     active: Option<Box<Active<A>>>,
     /// The promise of its stable pair: it takes part in no view below.
     promise: u32,

@@ -8,3 +8,7 @@ on_ok (Err e) P Q made h = tt
 pub on_err : {T E : Type 0} (r : Result T E) (P Q : Type 0) → (P → Q) → OnErr r P → OnErr r Q
 on_err (Ok x) P Q made h = tt
 on_err (Err e) P Q made h = made h
+
+pub err_given : {T E P : Type 0} (r : Result T E) → P → OnErr r P
+err_given (Ok x) h = tt
+err_given (Err e) h = h

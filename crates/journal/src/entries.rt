@@ -132,6 +132,7 @@ impl<B: Weight> Entries<B> {
     }
 
     /// Adds letters, for a post that is to come. An `Err` changes nothing.
+    #[inline(always)]
     pub fn prepare<P: Outgoing<B>>(&mut self, post: &P) -> Result<(), AllocError>
         requires { self.old.coming ≡ [] }
         ensures ok { OnOk result (self.new ≡ record self.old { coming = P.letters post.now }) }

@@ -66,6 +66,7 @@ fn sums_with<B: Weight>(sums: Sums, letters: &Coming<'_, B>) -> Result<Sums, Sto
 }
 
 /// The letters of a post that find room come into the queues. An `Err` changes none.
+#[inline(always)]
 fn place_letters<B: Weight>(
     queues: &mut Queues,
     posted: Sums,
@@ -135,6 +136,7 @@ impl<B: Weight> Ledger<B> {
 
     /// All of a post that may fail, with memory for its entry and `more` further ones. An `Err` changes
     /// nothing.
+    #[inline(always)]
     fn prepare<P: Outgoing<B>>(
         &mut self,
         actor: Actor,
@@ -180,6 +182,7 @@ impl<B: Weight> Ledger<B> {
     }
 
     /// Posts an outbox, with memory for `more` further entries. An `Err` changes nothing. One with no letter makes no entry.
+    #[inline(always)]
     pub fn post<P: Outgoing<B>>(&mut self, actor: Actor, post: &P, more: usize) -> Result<(), Stop>
         requires small { more ≤ 2 }
         requires kept { IsLedger B.size self.old }

@@ -148,6 +148,7 @@ impl<B: Weight> Wire<B> {
     }
 
     /// Posts an outbox.
+    #[inline(always)]
     pub fn post<P: Outgoing<B>>(&mut self, actor: Actor, post: &P) -> Result<(), Stop>
         ensures ok { OnOk result (self.new ≡ self.old ++ posting B.size actor (P.letters post.now) (past self.old)) }
         ensures err { IfErr result (λ stop. (self.new ≡ self.old) × RefusedBy B.size stop (P.letters post.now) (past self.old)) }

@@ -225,11 +225,6 @@ pub forgets-same : (ports : List ℕ) (b : Buffer) → forgets ports b ≡ recor
 forgets-same [] b = refl
 forgets-same (port ∷ ports) b = forgets-same ports (without_dirty b port)
 
-pub forgetting-is : (ports : List ℕ) (s : SwitchState) (d : Draft) → IsDraft s d → IsDraft (forgetting ports s) d
-forgetting-is ports s d is =
-    subst (λ (b : Buffer). IsDraft (record s { buffer = b }) d) (sym (forgets-same ports s.buffer))
-    (record { switch_is = is.switch_is; life_is = is.life_is; master_is = is.master_is; cleared_is = is.cleared_is; held_is = is.held_is })
-
 -- nor does it matter which events it holds
 pub forgets-joined : (ports : List ℕ) (b : Buffer) (events : List Event) → forgets ports (record b { held = b.held ++ events }) ≡ record (forgets ports b) { held = (forgets ports b).held ++ events }
 forgets-joined [] b events = refl

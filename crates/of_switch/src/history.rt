@@ -57,6 +57,7 @@ impl History {
     }
 
     /// The events that wait, the lowest number first.
+    #[inline(always)]
     pub fn held(&self) -> &[Event]
         ensures { result.now ≡ self.now.buffer.held }
     {
@@ -64,6 +65,7 @@ impl History {
     }
 
     /// How many wait, and the ports whose change found no room. All events stand in memory.
+    #[inline(always)]
     pub fn counts(&self) -> &HeldEvents
         ensures counts { result.now ≡ counted self.now.buffer }
         ensures few { length self.now.events < 2 ^ 63 }
@@ -72,6 +74,7 @@ impl History {
     }
 
     /// The events below a number need not wait any more.
+    #[inline(always)]
     pub fn clear(&mut self, through: u64)
         ensures { self.new ≡ with_cleared through self.old }
     {
@@ -95,6 +98,7 @@ impl History {
     }
 
     /// Events are new.
+    #[inline(always)]
     pub fn join(&mut self, mut events: Vec<Event>) -> Result<(), AllocError>
         requires room { length self.old.buffer.held + length events.items ≤ most_held }
         requires countable { next_number self.old.buffer + length events.items < 2 ^ 64 }

@@ -196,6 +196,7 @@ impl<B: Body, A: App> World<B, A> {
     }
 
     /// Posts what is owed. At a full journal, and at want of memory, it changed nothing.
+    #[inline(always)]
     pub fn post_owed(&mut self) -> Result<(), Stop>
         ensures posts { OnOk result (self.new ≡ with_posts B.sealing.size self.old) }
         ensures holds { ForEachKinds (Holds A.law B.sealing self.old) (Holds A.law B.sealing self.new) }
@@ -203,10 +204,9 @@ impl<B: Body, A: App> World<B, A> {
             (λ stop. (self.new ≡ self.old) × PostStops B.sealing.size self.old stop) }
     {
         if self.owes() {
-            self.post_outbox()
-        } else {
-            Ok(())
+            return self.post_outbox();
         }
+        Ok(())
     }
 
     /// Whether something may be owed.
@@ -248,6 +248,17 @@ impl<B: Body, A: App> World<B, A> {
         {
             controller.reuse(letters);
         }
+    }
+
+    /// Posts what is owed before a turn. Only a turn that found no memory left something owed.
+    #[inline(never)]
+    fn post_late(&mut self) -> Result<(), Stop>
+        ensures posts { OnOk result (self.new ≡ with_posts B.sealing.size self.old) }
+        ensures holds { ForEachKinds (Holds A.law B.sealing self.old) (Holds A.law B.sealing self.new) }
+        ensures stops { IfErr result
+            (λ stop. (self.new ≡ self.old) × PostStops B.sealing.size self.old stop) }
+    {
+        self.post_outbox()
     }
 
     /// The packet of a choice, if one waits for the actor. It goes on waiting.
@@ -503,9 +514,8 @@ impl<B: Body, A: App> World<B, A> {
         ensures keeps { Keeps A.law W.saving B.sealing self.old stables.old self.new stables.new }
         ensures stops { IfErr result (TurnStops B.sealing.size turn self.old self.new) }
     {
-        // (Only a turn that found no memory left something owed.)
         if self.owes() {
-            self.post_outbox()?;
+            self.post_late()?;
         }
         self.step(stables, turn)?;
         self.post_owed()

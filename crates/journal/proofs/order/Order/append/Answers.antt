@@ -1,12 +1,9 @@
-use Rattle.std.proofs.Common.{Result, Ok, Err, OnErr, ◌≡◌, ◌≤◌, ◌-◌, ◌++◌, None, length, map, take, replicate, subst, sym, ap, ◌∙◌, arith}
+use Rattle.std.proofs.Common.{◌≡◌, ◌≤◌, ◌-◌, ◌++◌, None, length, map, take, replicate, subst, sym, ap, ◌∙◌, arith}
 use Rattle.std.specs.Prelude.{Some}
 use Rattle.journal.specs.Order.{HaveNumbersBelow, IsLowest, addressed, awaited}
 use Rattle.journal.proofs.Slots.{clear_resized, kept_resized, letters_wait, long_resized, lowest_letters}
+use Rattle.journal.proofs.Results.{err_given}
 use Rattle.journal.proofs.order.Order.append.Goals as goal
-
-on_err : {T E P : Type 0} (r : Result T E) → P → OnErr r P
-on_err (Ok x) h = tt
-on_err (Err e) h = h
 
 pub lowest_from-self-inside-requires : goal.lowest_from-self-inside-requires
 lowest_from-self-inside-requires g c =
@@ -20,7 +17,7 @@ pub returns-in_err-reserve-clause-err : goal.returns-in_err-reserve-clause-err
 returns-in_err-reserve-clause-err g c =
     let slots = c.self.inside.slots in
     let below = subst (HaveNumbersBelow c.args.number) (sym c.self.view_is) c.requires.above in
-    on_err c.from_residual-in_err-reserve.result
+    err_given c.from_residual-in_err-reserve.result
     (ap (awaited 0) c.in_err-reserve.ensures.items
     ∙ ap (awaited 0) c.in_ok-resize.ensures.items
     ∙ kept_resized c.args.number (c.args.number - slots.len) slots.items below

@@ -1,21 +1,18 @@
-use Rattle.std.proofs.Common.{◌≡◌, ◌≤◌, Result, Ok, Err, OnErr, [], ◌∷◌, ◌++◌, length, map, take, sym, subst, ap, ◌∙◌, refl}
+use Rattle.std.proofs.Common.{◌≡◌, Ok, [], ◌∷◌, ◌++◌, length, map, take, sym, subst, ap, ◌∙◌, refl}
 use Rattle.list_facts.proofs.Prefixes.{prefix_front, prefix_length}
 use Rattle.std.specs.Fn.{FnOnceReturnsAtMut}
 use Rattle.journal.specs.declared.packed.Slip.{Slip}
 use Rattle.journal.specs.Mailbags.{letter_of, ShareWithin}
 use Rattle.journal.proofs.Packing.{letters_kept, one_more, within_one}
+use Rattle.journal.proofs.Results.{err_given}
 use Rattle.journal.proofs.packed.Packed.write.Goals as goal
-
-on_err : {T E P : Type 0} (r : Result T E) → P → OnErr r P
-on_err (Ok x) h = tt
-on_err (Err e) h = h
 
 pub returns-in_err-push-clause-err : goal.returns-in_err-push-clause-err
 returns-in_err-push-clause-err g c =
     let before = c.self.inside.bytes in
     let new = c.store_body.new.bytes in
     let slips = c.self.inside.slips.items in
-    on_err c.from_residual-in_err-push.result
+    err_given c.from_residual-in_err-push.result
     (ap (map (letter_of new)) c.in_err-push.ensures.items
     ∙ letters_kept before new slips (sym (prefix_front c.store_body.ensures.behind)) c.self.invariant
     ∙ c.self.view_is)

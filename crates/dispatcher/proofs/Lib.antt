@@ -1,5 +1,6 @@
 pub mod Counting
 pub mod Finding
+pub mod Forgetting
 pub mod Handling
 pub mod Ledgers
 pub mod Numbering

@@ -1,5 +1,5 @@
 -- There is room for the results that may still come: as they come, and as a log grows.
-use Rattle.std.proofs.Common.{inl, inr, ◌≡◌, ◌<◌, ◌≤◌, ℕ, zero, suc, ◌+◌, Bool, true, false, not, ◌&&◌, ◌||◌, List, [], ◌∷◌, ◌++◌, length, drop, refl, sym, ap, subst, ◌∙◌, arith, append-nil, length-append}
+use Rattle.std.proofs.Common.{inl, inr, ◌≡◌, ◌<◌, ◌≤◌, ℕ, ◌+◌, Bool, true, false, not, ◌&&◌, ◌||◌, List, [], ◌∷◌, ◌++◌, length, drop, get_or, refl, sym, ap, subst, ◌∙◌, arith, append-nil, length-append}
 use Rattle.std.specs.Prelude.{IfOk, IsOk, OnErr, Result, Ok, Err, cond, count_by, nat_eq, if◌then◌else◌}
 use Rattle.std.specs.List.{list_any}
 use Rattle.std.proofs.lemmas.Bool.{and_parts, cases_Bool, cases_lt, eqb-true}
@@ -17,11 +17,7 @@ use Rattle.app_core.specs.declared.issued.Issued.{Issued}
 use Rattle.dispatcher.specs.declared.ledger.Ledger.{Ledger}
 use Rattle.dispatcher.specs.Ledger.{HasRoomForResults, IsLedgerOfLog, lacks_result}
 use Rattle.dispatcher.specs.Marks.{Marks, no_marks, has_result, is_pending, unsettled, with_mark, with_marked_result}
-use Rattle.dispatcher.proofs.Numbering.{is_of, is_unsettled}
-
--- one for what passes a test, else nothing
-abbrev one_if : Bool → ℕ
-one_if b = if b then 1 else 0
+use Rattle.dispatcher.proofs.Numbering.{front_of, is_of, is_unsettled, one_if}
 
 -- a key that is not in a set is put into it: there is room for as many as before
 pub insert_room : {A E : Type 0} (result : Result Bool E) (there : Bool) (keys keys' : List A) (spare spare' : ℕ) → IfOk result (λ added. added ≡ not there) → IfOk result (λ added. length keys' ≡ length keys + (if added then 1 else 0)) →
@@ -87,13 +83,6 @@ module _ (marks : Marks) (s l n : ℕ) (new : has_result marks s l n ≡ false) 
   lower : (xs : List Issued) → list_any (is_of s l n) xs ≡ true → count_by (lacks_result (marked marks s l n)) xs + 1 ≤ count_by (lacks_result marks) xs
   lower xs there = counts_lower (lacks_result marks) (lacks_result (marked marks s l n)) (is_of s l n) left same xs there
 
--- lists, one after another, from a place on: the list that stands there is in front of the others
-front_of : (n : ℕ) (xs : List (List Issued)) → (front : List Issued) × (concat (drop n xs) ≡ front ++ concat (drop (n + 1) xs))
-front_of zero [] = ([], refl)
-front_of zero (x ∷ xs) = (x, refl)
-front_of (suc n) [] = let e : suc (n + 1) ≡ suc n + 1 = omega arith in ([], ap (λ (k : ℕ). concat {A = Issued} (drop k [])) e)
-front_of (suc n) (x ∷ xs) = let e : suc (n + 1) ≡ suc n + 1 = omega arith in let h = front_of n xs in (h.0, h.1 ∙ ap (λ (k : ℕ). h.0 ++ concat (drop k (x ∷ xs))) e)
-
 module _ (kinds : List ℕ) (setup : Setup) where
   pub room_at_first : (marks : Marks) (room : ℕ) → marks ≡ no_marks → HasRoomForResults (unsettled kinds setup []) marks room
   unfolding issues reactions
@@ -113,12 +102,13 @@ module _ (kinds : List ℕ) (setup : Setup) where
       let is : unsettled kinds setup (log ++ Processed j ∷ []) ≡ concat (drop (processed log + 1) all) =
       ap (λ (k : ℕ). concat (drop k (issues kinds setup (received (log ++ Processed j ∷ []))))) (processed_push log (Processed j)) ∙ ap (λ (es : List Event). concat (drop (processed log + 1) (issues kinds setup es))) events in
       let rest = concat (drop (processed log + 1) all) in
-      let front = front_of (processed log) all in
-      let counts = ap (λ (l : List Issued). count_by (lacks_result marks) l) front.1 ∙ sum_by-append (λ x. cond (lacks_result marks x) 1 0) front.0 rest in
-      let lengths = ap (λ (l : List Issued). length l) front.1 ∙ length-append front.0 rest in
-      let first = has.in_view in
-      let again = has.in_next in
-      subst (λ (l : List Issued). HasRoomForResults l marks room) (sym is) (record { in_view = omega (arith, counts, first); in_next = omega (arith, lengths, again) })
+      let first = get_or all (processed log) [] in
+      let joined = front_of (processed log) all in
+      let counts = ap (λ (l : List Issued). count_by (lacks_result marks) l) joined ∙ sum_by-append (λ x. cond (lacks_result marks x) 1 0) first rest in
+      let lengths = ap (λ (l : List Issued). length l) joined ∙ length-append first rest in
+      let now = has.in_view in
+      let next = has.in_next in
+      subst (λ (l : List Issued). HasRoomForResults l marks room) (sym is) (record { in_view = omega (arith, counts, now); in_next = omega (arith, lengths, next) })
 
   -- a result comes of a command that is pending: it is noted where it is the first
   module _ (log : List Entry) (marks after : Marks) (room later s l n : ℕ) (has : HasRoomForResults (unsettled kinds setup log) marks room) (pending : is_pending kinds setup log s l n ≡ true)

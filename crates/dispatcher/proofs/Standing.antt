@@ -27,7 +27,7 @@ use Rattle.dispatcher.specs.declared.ledger.Ledger.{Ledger}
 use Rattle.dispatcher.specs.Folding.{numbered, is_told, clears}
 use Rattle.dispatcher.specs.Counted.{counts_of}
 use Rattle.dispatcher.specs.Ledger.{Dispatching, HasRoomForResults, IsLedgerOfLog, StandsFor, as_numbered, cleared_of_life, first_commands, handled_of, has_pending, has_told, is_outstanding, wants, most_commands}
-use Rattle.dispatcher.specs.Marks.{Marks, is_confirmed, is_finished, is_pending, is_wanted, outstanding, settled_commands, unsettled, wanted}
+use Rattle.dispatcher.specs.Marks.{Marks, is_confirmed, is_finished, is_pending, is_wanted, outstanding, pending_alone, settled_commands, unsettled, wanted}
 use Rattle.dispatcher.proofs.Ledgers.{length-handled_of}
 use Rattle.dispatcher.proofs.Rooms.{room_received, room_processed}
 
@@ -82,8 +82,17 @@ module _ (kinds : List ℕ) (setup : Setup) (log : List Entry) (ledger : Ledger)
   pub counts_are : (s l : ℕ) → (counts_of ledger.counts s l).processed ≡ processed_of log s l
   counts_are s l = ap (λ (c : Counts). c.processed) (kept.counts s l)
 
+  pub pending_is : (s l n : ℕ) → has_pending ledger s l n ≡ is_pending kinds setup log s l n
+  pending_is s l n = ap (λ (c : Counts). nat_le c.settled n && nat_lt n c.issued) (kept.counts s l)
+
   pub pends : (s l n : ℕ) (pending : Bool) → pending ≡ has_pending ledger s l n → pending ≡ true → is_pending kinds setup log s l n ≡ true
-  pends s l n pending is holds = sym (ap (λ (c : Counts). nat_le c.settled n && nat_lt n c.issued) (kept.counts s l)) ∙ sym is ∙ holds
+  pends s l n pending is holds = sym (pending_is s l n) ∙ sym is ∙ holds
+
+  -- what stays where settled commands are forgotten
+  pub kept_pending : (marks : Marks) → record marks { acked = filter (λ a. has_pending ledger a.0 a.1 a.2) marks.acked } ≡ pending_alone kinds setup log marks
+  kept_pending marks =
+      ap (λ (l : List (ℕ × ℕ × ℕ)). record marks { acked = l })
+      (filter_same (λ a. has_pending ledger a.0 a.1 a.2) (λ a. is_pending kinds setup log a.0 a.1 a.2) marks.acked (λ a. pending_is a.0 a.1 a.2))
 
   pub settled_is : (s l : ℕ) → (counts_of ledger.counts s l).settled ≡ settled_commands kinds setup log s l
   settled_is s l = ap (λ (c : Counts). c.settled) (kept.counts s l)

@@ -68,6 +68,10 @@ abbrev pub with_marked_result : List ℕ → Setup → List Entry → Marks → 
 with_marked_result kinds setup log marks switch life number =
     if is_pending kinds setup log switch life number then with_mark marks switch life number else marks
 
+-- the results of other commands are forgotten
+abbrev pub pending_alone : List ℕ → Setup → List Entry → Marks → Marks
+pending_alone kinds setup log marks = record marks { acked = filter (λ a. is_pending kinds setup log a.0 a.1 a.2) marks.acked }
+
 -- a command still wants a result: none came, and its life goes on
 abbrev pub is_wanted : List Entry → Marks → Issued → Bool
 is_wanted log marks x = not (has_result marks x.switch x.life x.number) && not (has_ended x.switch x.life (received log))

@@ -1,5 +1,5 @@
 //! The dispatcher of a primary.
-ghost use Rattle.std.specs.Prelude.{◌≡◌, ◌≤◌, ◌∷◌, ◌++◌, [], Option, Some, None, map, filter, nat_eq, true, IfOk, if◌then◌else◌, OnOk};
+ghost use Rattle.std.specs.Prelude.{◌≡◌, ◌≤◌, ◌∷◌, ◌++◌, [], Option, Some, None, length, map, filter, nat_eq, true, IfOk, if◌then◌else◌, OnOk};
 ghost use Rattle.of_types.specs.declared.setup.Setup.{Setup};
 ghost use Rattle.of_types.specs.Setups.{IsSetup};
 ghost use Rattle.of_types.specs.Lives.{has_ended};
@@ -12,7 +12,7 @@ ghost use Rattle.dispatcher.specs.Folding.{numbered, places_processed, wish};
 ghost use Rattle.dispatcher.specs.Few.{values_in};
 ghost use Rattle.dispatcher.specs.Ledger.{AreHandledAt, ForEachLog, StandsFor, handled_by, most_commands};
 ghost use Rattle.dispatcher.specs.Marks as marks;
-ghost use Rattle.dispatcher.specs.Marks.{confirmed_by, is_confirmed, is_finished, is_pending, no_marks, with_marked_result};
+ghost use Rattle.dispatcher.specs.Marks.{confirmed_by, is_confirmed, is_finished, is_pending, no_marks, pending_alone, with_marked_result};
 
 use crate::answers::{AckThrough, EventAction, HandledEvent};
 use crate::commands;
@@ -182,6 +182,23 @@ impl<A: App> Dispatcher<A> {
         ensures stands { ForEachLog (StandsFor A.law self.old) (StandsFor A.law self.new) }
     {
         self.marks.clear();
+    }
+
+    /// Of how many commands results are kept, since the view began or `forget` was called.
+    pub fn marked(&self) -> usize
+        ensures { result ≡ length self.now.marks.acked }
+    {
+        self.marks.len()
+    }
+
+    /// The results of commands that are settled are forgotten: no rule asks for them again. It takes no memory, and as
+    /// many steps as there are results.
+    pub fn forget(&mut self)
+        ensures marks { ForEachLog (StandsFor A.law self.old) (λ kinds setup log. self.new.marks ≡ pending_alone kinds setup log self.old.marks) }
+        ensures stands { ForEachLog (StandsFor A.law self.old) (StandsFor A.law self.new) }
+        ensures same { self.new ≡ record self.old { marks = self.new.marks; room = self.new.room } }
+    {
+        self.marks.forget_settled(&self.ledger);
     }
 
     /// Whether a switch took this controller as master in this view.

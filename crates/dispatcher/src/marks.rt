@@ -1,9 +1,13 @@
 //! The marks of a view.
-ghost use Rattle.std.specs.Prelude.{◌≡◌, ◌+◌, ◌<◌, ◌≤◌, false, length, true, OnOk};
+ghost use Rattle.std.specs.Prelude.{◌≡◌, ◌+◌, ◌<◌, ◌≤◌, false, filter, length, true, OnOk};
+ghost use Rattle.std.specs.HashSet.{spare};
+ghost use Rattle.std.specs.Vec.{vec_capacity};
+ghost use Rattle.dispatcher.specs.Ledger.{has_pending};
 ghost use Rattle.dispatcher.specs.Marks as marks;
 ghost use Rattle.dispatcher.specs.Marks.{confirmed_by, has_result, is_confirmed, no_marks, with_mark};
 
 use crate::highest::Highest;
+use crate::ledger::Ledger;
 use of_types::SmallSet;
 use std::alloc::{AllocError, Global};
 use std::collections::HashSet;
@@ -84,6 +88,23 @@ impl ViewMarks {
         self.confirmed.contains(switch)
     }
 
+    /// Of how many commands results are kept.
+    pub(crate) fn len(&self) -> usize
+        ensures { result ≡ length self.now.marks.acked }
+    {
+        self.acked.len()
+    }
+
+    /// Of commands that are not pending the results are forgotten. It takes no memory, and leaves as much room for
+    /// further results.
+    pub(crate) fn forget_settled(&mut self, ledger: &Ledger)
+        ensures marks { self.new.marks ≡ record self.old.marks { acked = filter (λ a. has_pending ledger.now a.0 a.1 a.2) self.old.marks.acked } }
+        ensures room { self.old.room + length self.new.marks.acked ≤ self.new.room + length self.old.marks.acked }
+    {
+        keep_listed(&mut self.acked, ledger);
+        keep_found(&mut self.found, ledger);
+    }
+
     /// Whether a result of a command came. One that is asked for mostly is among the last ones.
     #[inline(always)]
     pub(crate) fn has_result(&self, switch: u8, life: u32, number: u64) -> bool
@@ -140,4 +161,20 @@ impl ViewMarks {
             self.highest.raise(switch, number);
         }
     }
+}
+
+/// Those that are pending stay in a list, in their order.
+fn keep_listed(commands: &mut Vec<(u8, u32, u64)>, ledger: &Ledger)
+    ensures kept { commands.new.items ≡ filter (λ a. has_pending ledger.now a.0 a.1 a.2) commands.old.items }
+    ensures room { vec_capacity commands.new ≡ vec_capacity commands.old }
+{
+    commands.retain(|command| ledger.has_pending(command.0, command.1, command.2));
+}
+
+/// They stay in a set.
+fn keep_found(commands: &mut HashSet<(u8, u32, u64)>, ledger: &Ledger)
+    ensures kept { commands.new.keys ≡ filter (λ a. has_pending ledger.now a.0 a.1 a.2) commands.old.keys }
+    ensures room { spare commands.old ≤ spare commands.new }
+{
+    commands.retain(|command| ledger.has_pending(command.0, command.1, command.2));
 }

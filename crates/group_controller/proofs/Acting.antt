@@ -32,12 +32,12 @@ use Rattle.dispatcher.specs.declared.answers.HandledEvent.{HandledEvent}
 use Rattle.dispatcher.specs.declared.numbered.NumberedOrder.{NumberedOrder}
 use Rattle.dispatcher.specs.Folding.{numbered}
 use Rattle.dispatcher.specs.Ledger.{Dispatching, ForEachLog, StandsFor}
-use Rattle.dispatcher.specs.Marks.{Marks, confirmed_by, is_confirmed, outstanding}
+use Rattle.dispatcher.specs.Marks.{Marks, confirmed_by, is_confirmed, outstanding, pending_alone}
 use Rattle.group_controller.specs.declared.messages.ControllerSays.{ControllerSays}
 use Rattle.group_controller.specs.Acting.{Acting, Acts, ActsUpTo, BeginsTurn, Offers, pair_with, posts_letters, TakesStep, with_out, with_state, Works}
 use Rattle.group_controller.specs.Rules.{commands_for, on_master, on_role_reply, on_tick, tick_letters, unconfirmed}
 use Rattle.group_controller.specs.Settling.{role_letter, command_letter, command_letters, is_some_of, is_untold, with_commands, with_proposal}
-use Rattle.group_controller.specs.State.{ControllerState, Work, committed, met_limit, posting_work, leaving, resting, stepped, to_members}
+use Rattle.group_controller.specs.State.{ControllerState, Work, committed, with_settled_forgotten, met_limit, posting_work, leaving, resting, stepped, to_members}
 use Rattle.group_controller.proofs.Answering.{asked_more, letters_are, parts_join}
 
 module _ {A : Type 0} where
@@ -322,3 +322,26 @@ module _ {A : Type 0} (law : AppLaw A) (kinds : List ℕ) (setup : Setup) where
       (ap (λ (l : List (Letter ControllerSays)). record (stepped c step) { letters = l }) (sym (append-nil (stepped c step).letters))
       ∙ sym (ap (λ (b : Bool). posting_work (stepped c step) (if b then tick_letters kinds setup c else [])) none))
       (folded_does a b b step s (still_acts a b step s (tick_same c.vr)) refl refl)
+
+  -- the results of commands that are settled are forgotten
+  pub forgets_state : (a : Acting A) (d : Dispatching A) → IsActing a → ForEachLog (StandsFor law a.dispatcher) (λ kinds setup log. d.marks ≡ pending_alone kinds setup log a.dispatcher.marks) →
+      record a.work.state { marks = d.marks } ≡ with_settled_forgotten kinds setup a.work.state
+  forgets_state a d h forgets =
+      ap (λ (m : Marks). record a.work.state { marks = m })
+      (forgets kinds setup (committed a.work.state) h.stands ∙ ap (λ (m : Marks). pending_alone kinds setup (committed a.work.state) m) (sym h.marks))
+
+  pub forgets_begins : (a : Acting A) (d : Dispatching A) → BeginsTurn law a kinds setup → ForEachLog (StandsFor law a.dispatcher) (StandsFor law d) →
+      BeginsTurn law (record a { work = record a.work { state = record a.work.state { marks = d.marks } }; dispatcher = d }) kinds setup
+  forgets_begins a d h still =
+      record {
+        acts = record {
+          valid = h.acts.valid;
+          own = h.acts.own;
+          reach = h.acts.reach;
+          stands = still kinds setup (committed a.work.state) h.acts.stands;
+          marks = refl;
+          saves = h.acts.saves;
+        };
+        rests = ap (λ (w : Work). record w { state = record a.work.state { marks = d.marks } }) h.rests;
+        unsaved = h.unsaved;
+      }

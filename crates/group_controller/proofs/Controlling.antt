@@ -1,6 +1,6 @@
 -- Turns of a controller: what its rule is, and what stands after it.
 use Rattle.std.proofs.Common.{◌≡◌, ◌≤◌, ◌<◌, ℕ, ◌+◌, Bool, true, false, List, [], ◌∷◌, ◌++◌, refl, sym, ap, subst, ◌∙◌}
-use Rattle.std.specs.Prelude.{Result, Ok, Err, IfOk, OnErr, OnOk, IfSome, IsSome, Option, Some, None, is_none, nat_lt, ◌&&◌, take, option_to_list, if◌then◌else◌}
+use Rattle.std.specs.Prelude.{Result, Ok, Err, IfOk, OnErr, OnOk, IfSome, IsSome, Option, Some, None, nat_lt, take, option_to_list, if◌then◌else◌}
 use Rattle.std.specs.List.{AllByRecursion}
 use Rattle.journal.specs.declared.journal.Letter.{Letter}
 use Rattle.journal.specs.declared.journal.SaveResult.{SaveResult}
@@ -32,8 +32,8 @@ use Rattle.group_controller.specs.declared.messages.ControllerInput.{ControllerI
 use Rattle.group_controller.specs.declared.messages.ControllerInput.TheVariants as controller_input
 use Rattle.group_controller.specs.Acting.{Acting, Acts, BeginsTurn, begun, pair_with, with_out, Works}
 use Rattle.group_controller.specs.Rules.{controller_work, is_crash_input, is_down, is_restart_input, on_crash, on_input, on_local, on_restart, when_down}
-use Rattle.group_controller.specs.State.{ControllerState, Work, down, fresh, resting, stepped, to_members, with_no_met_limit}
-use Rattle.group_controller.specs.Turns.{acting_by, begins_life, Done, SavesAndKeeps, KnowsPair, left_by, letters_left, letters_posted_by, MayTake, pair_in, PutsBack, released, Restarts, Saves, LeavesShelf, Turns, AreAlike, Born, Controlling, Controls, Stands, state_of, state_or, TakesBy, TakesInput, TakesOne, TakesOneAtMost, Wants}
+use Rattle.group_controller.specs.State.{ControllerState, Work, down, with_settled_forgotten, fresh, resting, stepped, to_members, with_no_met_limit}
+use Rattle.group_controller.specs.Turns.{acting_by, Done, SavesAndKeeps, KnowsPair, left_by, letters_left, letters_posted_by, MayTake, pair_in, PutsBack, released, Restarts, Saves, LeavesShelf, Turns, AreAlike, Born, Controlling, Controls, Stands, state_of, state_or, TakesBy, TakesInput, TakesOne, TakesOneAtMost, Wants}
 use Rattle.vr_core.proofs.Keeping.{later_than_none}
 
 -- one that is awake does what the rule of its input says
@@ -371,6 +371,40 @@ module _ {A : Type 0} (law : AppLaw A) (kinds : List ℕ) where
         acting = subst (λ (o : Option (Acting A)). IfSome (released (record after { acting = o })).acting (Stands law now kinds)) (sym off) tt;
         shelf = alike;
       }
+
+  -- one that is not down forgets what is settled
+  pub forgets_state : (c : Controlling A) (a b : Acting A) → c.acting ≡ Some a → b.work.state ≡ with_settled_forgotten kinds c.setup a.work.state → b.work.state ≡ with_settled_forgotten kinds c.setup (state_of c)
+  forgets_state c a b was is = is ∙ ap (λ (o : Option (Acting A)). with_settled_forgotten kinds c.setup (state_of (record c { acting = o }))) (sym was)
+
+  pub forgets_controls : (c : Controlling A) (a b : Acting A) → Controls law c kinds → c.acting ≡ Some a → BeginsTurn law b kinds c.setup → b.work.state ≡ with_settled_forgotten kinds c.setup a.work.state →
+      Controls law (record c { acting = Some b }) kinds
+  forgets_controls c a b h was begins is =
+      let stands = acting_stands c a h was in
+      record {
+        setup = h.setup;
+        member = h.member;
+        acting = record {
+          begins = begins;
+          me = ap (λ (s : ControllerState). s.vr.me) is ∙ stands.me;
+          controllers = ap (λ (s : ControllerState). s.vr.controllers) is ∙ stands.controllers;
+          promise = ap (λ (s : ControllerState). s.vr.promise) is ∙ stands.promise;
+          life = ap (λ (s : ControllerState). s.vr.life) is ∙ stands.life;
+          awake = λ off. stands.awake (sym (ap (λ (s : ControllerState). s.vr.status) is) ∙ off);
+        };
+        shelf = h.shelf;
+      }
+
+  -- one that is down has nothing to forget
+  pub down_forgets : (c : Controlling A) → c.acting ≡ None → state_of c ≡ with_settled_forgotten kinds c.setup (state_of c)
+  down_forgets c off = subst (λ (o : Option (Acting A)). state_of (record c { acting = o }) ≡ with_settled_forgotten kinds c.setup (state_of (record c { acting = o }))) (sym off) refl
+
+  -- whatever became of its saves
+  pub controls_alike : (c : Controlling A) (results : List SaveResult) → Controls law c kinds → Controls law (record c { results = results }) kinds
+  controls_alike c results h = record { setup = h.setup; member = h.member; acting = each c.acting h.acting; shelf = h.shelf }
+    where
+      each : (o : Option (Acting A)) → IfSome o (Stands law c kinds) → IfSome o (Stands law (record c { results = results }) kinds)
+      each None stands = tt
+      each (Some a) s = record { begins = s.begins; me = s.me; controllers = s.controllers; promise = s.promise; life = s.life; awake = s.awake }
 
   pair_by : (c : Controlling A) (o : Option (Acting A)) → IfSome o (Stands law c kinds) → pair_in (state_or (fresh (down_state c.me c.setup.controllers c.promise c.life)) o) ≡ (c.promise, c.life)
   pair_by c None h = refl

@@ -1,6 +1,7 @@
 -- What a controller holds, and what a turn of it saves, leaves and posts.
 use Rattle.std.specs.Prelude.{ℕ, Option, Some, None, option_map, List, [], ◌++◌, map, take}
 use Rattle.of_types.specs.declared.message.Spoken.{Spoken}
+use Rattle.of_types.specs.declared.setup.Setup.{Setup}
 use Rattle.journal.specs.declared.journal.Actor.TheVariants.{Controller, Switch}
 use Rattle.journal.specs.declared.journal.Letter.{Letter}
 use Rattle.vr_log.specs.declared.entry.Entry.{Entry}
@@ -10,7 +11,7 @@ use Rattle.vr_log.specs.declared.state.VrState.{VrState}
 use Rattle.vr_log.specs.Log.{full_at}
 use Rattle.vr_log.specs.Steps.{VrStep}
 use Rattle.vr_log.specs.Valid.{starting_state, down_state}
-use Rattle.dispatcher.specs.Marks.{Marks, no_marks}
+use Rattle.dispatcher.specs.Marks.{Marks, no_marks, pending_alone}
 use Rattle.group_controller.specs.declared.messages.ControllerSays.{ControllerSays}
 use Rattle.group_controller.specs.declared.messages.ControllerSays.TheVariants as controller_says
 
@@ -35,6 +36,10 @@ down c promise life = fresh (down_state c.vr.me c.vr.controllers promise life)
 
 abbrev pub committed : ControllerState → List Entry
 committed c = take c.vr.commit c.vr.log
+
+-- the results of commands that are settled are forgotten: no rule asks for them again
+abbrev pub with_settled_forgotten : List ℕ → Setup → ControllerState → ControllerState
+with_settled_forgotten kinds setup c = record c { marks = pending_alone kinds setup (committed c) c.marks }
 
 -- a proposal met the limit of the log
 abbrev pub met_limit : ControllerState → Entry → ControllerState

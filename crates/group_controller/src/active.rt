@@ -1,5 +1,5 @@
 //! A controller that is not down: a member of its group, with the dispatcher of its life.
-ghost use Rattle.std.specs.Prelude.{◌≡◌, ◌≤◌, ◌∷◌, [], true, false, ◌&&◌, not, nat_eq, ℕ, Some, None, map, flat_map, IfOk, OnErr, OnOk};
+ghost use Rattle.std.specs.Prelude.{◌≡◌, ◌≤◌, ◌∷◌, [], true, false, ◌&&◌, not, nat_eq, ℕ, Some, None, length, map, flat_map, IfOk, OnErr, OnOk};
 ghost use Rattle.of_types.specs.declared.setup.Setup.{Setup};
 ghost use Rattle.of_types.specs.Setups.{IsSetup};
 ghost use Rattle.vr_log.specs.Log.{may_follow};
@@ -15,7 +15,7 @@ ghost use Rattle.group_controller.specs.Rules as rules;
 ghost use Rattle.group_controller.specs.Rules.{after_step, starting_view, unconfirmed};
 ghost use Rattle.group_controller.specs.Settling as settling;
 ghost use Rattle.group_controller.specs.Settling.{after_finishing, after_proposal, command_letter, finishing, goes_on, role_letter, with_commands};
-ghost use Rattle.group_controller.specs.State.{fresh, resting, with_no_met_limit};
+ghost use Rattle.group_controller.specs.State.{with_settled_forgotten, fresh, resting, with_no_met_limit};
 ghost use Rattle.app_core.specs.Chain.{given_by};
 ghost use Rattle.group_controller.specs.declared.messages.ControllerInput.TheVariants as controller_input;
 
@@ -553,6 +553,21 @@ impl<A: App> Active<A> {
         ensures { self.new ≡ begun self.old }
     {
         self.full = None;
+    }
+
+    /// Of how many commands results are kept.
+    pub(crate) fn marked(&self) -> usize
+        ensures { result ≡ length self.now.work.state.marks.acked }
+    {
+        self.dispatcher.marked()
+    }
+
+    /// The results of commands that are settled are forgotten. It takes no memory.
+    pub(crate) fn forget(&mut self)
+        ensures state { ForEachGroup (Acts A.law self.old) (λ kinds setup. self.new.work.state ≡ with_settled_forgotten kinds setup self.old.work.state) }
+        ensures begins { ForEachGroup (BeginsTurn A.law self.old) (BeginsTurn A.law self.new) }
+    {
+        self.dispatcher.forget();
     }
 
     /// What the turn posts. Nothing is left to be saved or posted.

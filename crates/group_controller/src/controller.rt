@@ -1,12 +1,12 @@
 //! One turn of a controller.
-ghost use Rattle.std.specs.Prelude.{◌≡◌, ◌≤◌, ◌<◌, ◌∷◌, ◌++◌, [], ℕ, List, None, option_map, nat_eq, nat_lt, false, ◌&&◌, IfOk, IsSome, OnErr, OnOk};
+ghost use Rattle.std.specs.Prelude.{◌≡◌, ◌≤◌, ◌<◌, ◌∷◌, ◌++◌, [], ℕ, List, None, is_none, length, option_map, nat_eq, nat_lt, false, ◌&&◌, IfOk, IsSome, OnErr, OnOk};
 ghost use Rattle.std.specs.List.{AllByRecursion};
 ghost use Rattle.of_types.specs.Lives.{last_life};
 ghost use Rattle.of_types.specs.Setups.{IsSetup};
 ghost use Rattle.journal.specs.Stables.{standing};
 ghost use Rattle.dispatcher.specs.Ledger.{most_commands};
 ghost use Rattle.group_controller.specs.Rules.{is_crash_input, is_restart_input};
-ghost use Rattle.group_controller.specs.State.{starting_controller};
+ghost use Rattle.group_controller.specs.State.{with_settled_forgotten, starting_controller};
 ghost use Rattle.group_controller.specs.Turns.{AreAlike, begins_life, Born, Controls, ForEachKinds, SavesAndKeeps, KnowsPair, LeavesShelf, letters_left, MayTake, pair_in, released, Restarts, Saves, state_of, TakesInput, TakesOne, TakesOneAtMost, Turns, Wants};
 ghost use Rattle.app_core.specs.Chain.{given_by};
 
@@ -414,6 +414,42 @@ impl<A: App> Controller<A> {
         } else {
             Ok(Mails::new(self.alloc))
         }
+    }
+
+    /// Of how many commands results are kept, since the view began or it forgot. None where it is down.
+    pub fn marked(&self) -> Option<usize>
+        ensures { result ≡ option_map (λ a. length a.work.state.marks.acked) self.now.acting }
+    {
+        match &self.active {
+            Some(active) => Some(active.marked()),
+            None => None,
+        }
+    }
+
+    /// The results of commands that are settled are forgotten, where it is not down.
+    fn forget_settled(&mut self)
+        ensures state { ForEachKinds (Controls A.law self.old) (λ kinds. state_of self.new ≡ with_settled_forgotten kinds self.old.setup (state_of self.old)) }
+        ensures only { self.new ≡ record self.old { acting = self.new.acting } }
+        ensures awake { is_none self.new.acting ≡ is_none self.old.acting }
+        ensures controls { ForEachKinds (Controls A.law self.old) (Controls A.law self.new) }
+    {
+        let Some(active) = &mut self.active else {
+            return;
+        };
+        active.forget();
+    }
+
+    /// What no rule asks for is forgotten: the results of commands that are settled, and what became of its saves. It
+    /// is for a process that runs for long and tells nobody its past, and takes no memory. What is played for a report
+    /// never forgets.
+    pub fn forget(&mut self)
+        ensures state { ForEachKinds (Controls A.law self.old) (λ kinds. state_of self.new ≡ with_settled_forgotten kinds self.old.setup (state_of self.old)) }
+        ensures rest { self.new ≡ record self.old { acting = self.new.acting; results = [] } }
+        ensures awake { is_none self.new.acting ≡ is_none self.old.acting }
+        ensures controls { ForEachKinds (Controls A.law self.old) (Controls A.law self.new) }
+    {
+        self.results.clear();
+        self.forget_settled();
     }
 
     /// What a turn posted comes back, so that a later turn has its memory.

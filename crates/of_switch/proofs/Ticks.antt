@@ -1,5 +1,5 @@
 -- What a draft of a tick comes to is what the rules say.
-use Rattle.std.proofs.Common.{◌≡◌, ℕ, ◌+◌, Bool, true, false, List, [], ◌∷◌, ◌++◌, length, length-append, take, refl, sym, ◌∙◌, ap, subst, arith, append_assoc, append-nil, suc, zero, ◌-◌}
+use Rattle.std.proofs.Common.{◌≡◌, ℕ, ◌+◌, Bool, true, false, List, [], ◌∷◌, ◌++◌, length, length-append, take, refl, sym, ◌∙◌, ap, arith, append_assoc, append-nil, suc, zero, ◌-◌}
 use Rattle.std.proofs.lemmas.List.{map-append}
 use Rattle.std.specs.Prelude.{nat_eq, nat_le, nat_lt, Option, Some, None, is_none, map, ◌&&◌, if◌then◌else◌}
 use Rattle.of_types.specs.declared.message.Event.{Event}
@@ -12,7 +12,7 @@ use Rattle.flow_clock.specs.Clocked.{clock_tick, clock_told}
 use Rattle.of_switch.specs.declared.says.SwitchSays.{SwitchSays}
 use Rattle.of_switch.specs.State.{SwitchState, SwitchTurn, posts, greetings, life_of}
 use Rattle.of_switch.specs.Events.{window, event_letter, event_letters, noted_event, flow_removed, tells_left, switch_tick_letters, switch_on_tick}
-use Rattle.of_switch.specs.Drafts.{Draft, IsDraft, draft_of, drafted, drafted_event, with_letters, with_told, with_noted, with_removed, with_greetings, with_first}
+use Rattle.of_switch.specs.Drafts.{Draft, IsDraft, draft_of, drafted, drafted_event, with_letters, with_noted, with_removed, with_greetings, with_first}
 use Rattle.of_switch.proofs.Turns.{starts, start-is, held-then}
 
 -- something is noted

@@ -178,6 +178,7 @@ drafted-switch s d known =
           let held = length-append s.buffer.held d.raised in
           let events = length-append s.events d.raised in omega (arith, held, events, known.events);
       executed = known.executed;
+      countable = known.countable;
     }
 
 -- a port changes, and the change is told
@@ -238,12 +239,12 @@ pub forgotten-switch : (ports : List ℕ) (s : SwitchState) (through : ℕ) → 
 forgotten-switch ports s through known =
     let left : Buffer = without_events_below s.buffer through in
     let same : next_number (forgets ports left) ≡ next_number s.buffer = ap next_number (forgets-same ports left) ∙ cleared-next s.buffer through in
-    record { ports = known.ports; events = omega (arith, same, known.events); executed = known.executed }
+    record { ports = known.ports; events = omega (arith, same, known.events); executed = known.executed; countable = known.countable }
 
 -- ---- a restart
 
 pub life-switch : (s : SwitchState) → IsSwitch s → IsSwitch (next_life s)
-life-switch s known = record { ports = known.ports; events = omega arith; executed = omega arith }
+life-switch s known = record { ports = known.ports; events = omega arith; executed = omega arith; countable = known.countable }
 
 pub restart-drafted : (s : SwitchState) → nat_lt (life_of s) last_life ≡ true → switch_on_restart s ≡ drafted (next_life s) (life_begun s)
 restart-drafted s more =

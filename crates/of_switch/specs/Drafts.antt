@@ -154,7 +154,7 @@ forgetting ports s = record s { buffer = forgets ports s.buffer }
 -- a draft that keeps to its room
 pub record KeepsToRoom (d : Draft) : Type 0 where
   pub room : d.held ≤ most_held
-  pub countable : d.cleared < 2 ^ 63
+  pub countable : d.cleared + most_held < 2 ^ 64
 
 -- a command is carried out
 abbrev pub is_execute : Offer → Bool

@@ -18,6 +18,10 @@ with_joined events h = record { events = h.events ++ events; buffer = record h.b
 abbrev pub with_cleared : ℕ → History → History
 with_cleared through h = record h { buffer = without_events_below h.buffer through }
 
+-- the events that do not wait are forgotten
+abbrev pub with_past_forgotten : History → History
+with_past_forgotten h = record h { events = h.buffer.held }
+
 -- the next life begins, in which no event waits yet
 abbrev pub in_next_life : History → History
 in_next_life h = record h { buffer = empty_buffer h.buffer.switch (h.buffer.life + 1) }

@@ -1,6 +1,6 @@
 -- What a switch holds, and what a turn of it leaves and posts: a datapath of OpenFlow 1.3 with the event buffer
 -- and the command buffer of Ravana (4.1 and 4.2).
-use Rattle.std.specs.Prelude.{◌≡◌, ◌≤◌, ℕ, Bool, not, nat_eq, ◌||◌, List, [], ◌∷◌, ◌++◌, length, map, filter, slice_index, slice_index_or}
+use Rattle.std.specs.Prelude.{◌≡◌, ◌≤◌, ℕ, ◌+◌, ◌-◌, ◌^◌, Bool, not, nat_eq, nat_le, ◌||◌, List, [], ◌∷◌, ◌++◌, length, map, filter, slice_index, slice_index_or, if◌then◌else◌}
 use Rattle.std.specs.List.{list_any, range_with_len}
 use Rattle.of_types.specs.declared.message.Event.{Event}
 use Rattle.of_types.specs.declared.message.Executed.{Executed}
@@ -33,9 +33,10 @@ pub record SwitchState : Type 0 where
   pub results : Results
   pub table : Clocked  -- the rows in the order of adding, and the clock
   pub fence : Fence
-  pub events : List Event  -- all that it made, in all its lives
-  pub executed : List Executed  -- all that it carried out, in all its lives
-  pub ended : List ℕ  -- for each life that is over, how many events had left the buffer
+  pub events : List Event  -- all that it made, in all its lives, and did not forget
+  pub executed : List Executed  -- all that it carried out, in all its lives, and did not forget
+  pub ended : List ℕ  -- for each life that is over and not forgotten, how many events had left the buffer
+  pub gone : ℕ  -- how many events and commands it forgot
 
 -- a wire begins, or ends, at a port of this switch
 abbrev pub is_at : ℕ → Link → Bool
@@ -57,6 +58,7 @@ starting_switch number setup =
       events = [];
       executed = [];
       ended = [];
+      gone = 0;
     }
 
 abbrev pub own_number_of : SwitchState → ℕ
@@ -84,11 +86,30 @@ executed_in s life = filter (λ x. nat_eq x.life life) s.executed
 abbrev pub ports_up : SwitchState → List ℕ
 ports_up s = filter (λ p. not (list_any (λ d. nat_eq d p) s.down)) (range_with_len 1 s.ports)
 
--- a switch as its turns leave it: it has few ports, and remembers each event and each command that it numbered
+-- the most events and commands that a switch forgets (our own choice): its numbers stay below 2 ^ 64
+abbrev pub most_gone : ℕ
+most_gone = 2 ^ 62
+
+-- a switch as its calls leave it: it has few ports, and has or counts each event and each command that it numbered
 pub record IsSwitch (s : SwitchState) : Type 0 where
   pub ports : s.ports ≤ highest_port
-  pub events : next_number s.buffer ≤ length s.events
-  pub executed : s.results.executed ≤ length s.executed
+  pub events : next_number s.buffer ≤ s.gone + length s.events
+  pub executed : s.results.executed ≤ s.gone + length s.executed
+  pub countable : s.gone ≤ most_gone
+
+-- a switch without its past: the events that wait stay, and what goes is counted
+abbrev pub without_past : SwitchState → SwitchState
+without_past s =
+    record s {
+      events = s.buffer.held;
+      executed = [];
+      ended = [];
+      gone = s.gone + (length s.events - length s.buffer.held) + length s.executed;
+    }
+
+-- it forgets its past, as long as what is gone can be counted
+abbrev pub forgets_past : SwitchState → SwitchState
+forgets_past s = if nat_le (without_past s).gone most_gone then without_past s else s
 
 -- what a turn leaves, and what it wants to post
 pub record SwitchTurn : Type 0 where

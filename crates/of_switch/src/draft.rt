@@ -87,7 +87,7 @@ impl Draft {
         sent: u64,
     ) -> Draft
         requires left { left ≤ held.now.count }
-        requires countable { number_after held.now < 2 ^ 63 }
+        requires countable { number_after held.now + most_held < 2 ^ 64 }
         ensures { result ≡ record (draft_from held.now master sent) { cleared = held.now.cleared + left; held = held.now.count - left } }
     {
         Draft {

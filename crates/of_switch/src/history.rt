@@ -1,18 +1,18 @@
 //! The events of a switch (Ravana, 4.1).
-ghost use Rattle.std.specs.Prelude.{◌≡◌, ◌≤◌, ◌<◌, ◌+◌, ◌^◌, length, OnOk, OnErr};
+ghost use Rattle.std.specs.Prelude.{◌≡◌, ◌≤◌, ◌<◌, ◌+◌, ◌-◌, ◌^◌, length, OnOk, OnErr};
 ghost use Rattle.of_types.specs.Lives.{last_life};
 ghost use Rattle.event_buffer.specs.Buffer.{most_held, highest_port, next_number, counted, with_dirty, without_dirty};
-ghost use Rattle.of_switch.specs.History.{starting_history, with_joined, with_cleared, in_next_life};
+ghost use Rattle.of_switch.specs.History.{starting_history, with_joined, with_cleared, with_past_forgotten, in_next_life};
 
 use event_buffer::HeldEvents;
 use of_types::Event;
 use std::alloc::{AllocError, Global};
 use std::marker::Model;
 
-/// All events that a switch made, and how many of them wait to be processed: the newest.
+/// All events that a switch made and didn't forget, and how many of them wait to be processed: the newest.
 #[derive(Drop)]
 pub struct History {
-    /// The events of all lives that were made, in order.
+    /// The events of all lives that were made, but those that were forgotten, in order.
     events: Vec<Event>,
     /// How many of the present life wait, and the ports whose change found no room.
     held: HeldEvents,
@@ -41,14 +41,14 @@ impl History {
         }
     }
 
-    /// All events, in order.
+    /// All events that were not forgotten, in order.
     pub fn events(&self) -> &[Event]
         ensures { result.now ≡ self.now.events }
     {
         &self.events
     }
 
-    /// All events, taken out.
+    /// All events that were not forgotten, taken out.
     pub fn into_events(self) -> Vec<Event>
         ensures { result.items ≡ self.events }
     {
@@ -125,6 +125,21 @@ impl History {
         self.held.clear(through);
         self.held.add(more);
         Ok(())
+    }
+
+    /// How many events don't wait any more.
+    pub fn past(&self) -> usize
+        ensures { result ≡ length self.now.events - length self.now.buffer.held }
+    {
+        self.events.len() - self.held.count()
+    }
+
+    /// Forgets the events that don't wait any more. The list keeps its room.
+    pub fn forget(&mut self)
+        ensures { self.new ≡ with_past_forgotten self.old }
+    {
+        let past = self.past();
+        self.events.drain(..past);
     }
 
     /// The next life begins, with these events. No other waits.

@@ -40,7 +40,7 @@ pub struct Switch {
     down: Vec<bool>,
     /// How many frames it sent out.
     sent: u64,
-    /// The events that it made, and those of this life that wait to be processed.
+    /// The events that it made and didn't forget, and those of this life that wait to be processed.
     history: History,
     /// How many commands of this life were carried out, and their latest results.
     results: CommandBuffer,
@@ -48,10 +48,12 @@ pub struct Switch {
     table: Table,
     /// Which controller may command.
     fence: RoleFence,
-    /// The commands of all lives that were carried out, in order.
+    /// The commands of all lives that were carried out and not forgotten, in order.
     executed: Vec<Executed>,
-    /// Of each life that is over, how many events had left the buffer.
+    /// Of each life that is over and not forgotten, how many events had left the buffer.
     ended: Vec<u64>,
+    /// How many events and commands were forgotten.
+    gone: u64,
 }
 
 impl Model for Switch {
@@ -74,6 +76,7 @@ impl Model for Switch {
       events = a.history.events;
       executed = a.executed.items;
       ended = a.ended.items;
+      gone = a.gone;
     } };
 
     ghost invariant = { λ a. IsSwitch (record {
@@ -89,6 +92,7 @@ impl Model for Switch {
       events = a.history.events;
       executed = a.executed.items;
       ended = a.ended.items;
+      gone = a.gone;
     }) };
 }
 
@@ -110,6 +114,7 @@ impl Switch {
             fence: RoleFence::new(),
             executed: Vec::new(alloc),
             ended: Vec::new(alloc),
+            gone: 0,
         })
     }
 
@@ -120,14 +125,14 @@ impl Switch {
         let _sent = self.sent;
     }
 
-    /// All events that it made in all its lives, in order.
+    /// All events that it made in all its lives and didn't forget, in order.
     pub fn events(&self) -> &[Event]
         ensures { result.now ≡ self.now.events }
     {
         self.history.events()
     }
 
-    /// All commands that it carried out in all its lives, in order.
+    /// All commands that it carried out in all its lives and didn't forget, in order.
     pub fn executed(&self) -> &[Executed]
         ensures { result.now ≡ self.now.executed }
     {

@@ -5,6 +5,7 @@ ghost use Rattle.group_controller.specs.Turns.{AreAlike};
 ghost use Rattle.world.specs.World.{AreStocked};
 ghost use Rattle.top_call.specs.Play.{AreChains, program_kinds};
 
+use crate::remains::Remains;
 use app_chain::LifeOf;
 use app_core::{App, Part};
 use of_types::LAST_LIFE;
@@ -36,11 +37,12 @@ pub fn push_life<P: Part>(
     Ok(())
 }
 
-/// The applications of the lives of the first controllers, each in order, of those of all controllers.
+/// The applications of the lives of the first controllers, each in order, of those of all controllers. The others are let go.
 pub fn shelves_of<A: App>(
     alloc: Global,
     chains: Vec<A>,
     controllers: u8,
+    remains: Remains,
 ) -> Result<Vec<Vec<A>>, AllocError>
     requires chains { (kinds : List ℕ) × AreChains A.law kinds chains.items }
     requires few { controllers ≤ 7 }
@@ -57,6 +59,8 @@ pub fn shelves_of<A: App>(
                 shelves.push(shelf)?;
                 shelf = Vec::new(alloc);
             }
+        } else {
+            remains.let_go(chain);
         }
     }
     Ok(shelves)

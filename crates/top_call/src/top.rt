@@ -126,7 +126,7 @@ fn end_of_scenario<A: App, W: Stable>(
     ensures unplayed { IfOk result (λ ending. IsUnplayed (ending_status ending) → stables.new.items ≡ stables.old.items) }
     ensures stay { StablesStay W.saving stables.old.items stables.new.items }
 {
-    let shelves = shelves_of(alloc, chains, scenario.setup.controllers)?;
+    let shelves = shelves_of(alloc, chains, scenario.setup.controllers, remains)?;
     simulate(alloc, scenario, output, stables, shelves, remains)
 }
 
@@ -173,7 +173,7 @@ fn end_of_threads<A: App + Send, W: Stable + Drop + Send, G: Gate + Sync, R: Thr
     ensures unplayed { IfOk result (λ ending. IsUnplayed (ending_status ending) → stables.new.items ≡ stables.old.items) }
     ensures stay { StablesStay W.saving stables.old.items stables.new.items }
 {
-    let shelves = shelves_of(alloc, chains, scenario.setup.controllers)?;
+    let shelves = shelves_of(alloc, chains, scenario.setup.controllers, remains)?;
     simulate_apart(rt, alloc, gate, scenario, stables, shelves, remains)
 }
 

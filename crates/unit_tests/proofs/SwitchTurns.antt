@@ -50,6 +50,7 @@ fresh number controllers ports =
       events = [];
       executed = [];
       ended = [];
+      gone = 0;
     }
 
 -- with these events in its buffer in a life, behind so many that have left

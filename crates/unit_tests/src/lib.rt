@@ -25,6 +25,8 @@ mod entries;
 #[cfg(test)]
 mod fence;
 #[cfg(test)]
+mod forgetting;
+#[cfg(test)]
 mod frame;
 #[cfg(test)]
 mod journals;

@@ -35,9 +35,10 @@ const LEFT: FlowRemoved = FlowRemoved {
 };
 
 /// A frame of 14 bytes.
-const MET: [u8; 14] = [2, 0, 0, 0, 0, 1, 2, 0, 0, 0, 0, 2, 0x88, 0xb5];
+pub const MET: [u8; 14] = [2, 0, 0, 0, 0, 1, 2, 0, 0, 0, 0, 2, 0x88, 0xb5];
 
-fn two_ports(alloc: Global) -> Result<Setup, AllocError>
+/// A setup of one switch with two ports.
+pub fn two_ports(alloc: Global) -> Result<Setup, AllocError>
     ensures { IfOk result (λ setup. slice_index_or setup.ports 0 0 ≤ highest_port) }
 {
     Ok(Setup {
@@ -48,14 +49,15 @@ fn two_ports(alloc: Global) -> Result<Setup, AllocError>
     })
 }
 
-fn turn(switch: &mut Switch, input: SwitchInput) -> Result<(), AllocError> {
+/// A turn, whatever is said.
+pub fn turn(switch: &mut Switch, input: SwitchInput) -> Result<(), AllocError> {
     let said = switch.turn(input)?;
     drop(said);
     Ok(())
 }
 
 /// What controller 0 says.
-fn of_0(message: Spoken) -> SwitchInput {
+pub fn of_0(message: Spoken) -> SwitchInput {
     SwitchInput::Of {
         from: 0,
         xid: 1,
@@ -64,7 +66,7 @@ fn of_0(message: Spoken) -> SwitchInput {
 }
 
 /// Controller 0 leads the switch, and adds the row.
-fn adds(alloc: Global, switch: &mut Switch) -> Result<(), AllocError> {
+pub fn adds(alloc: Global, switch: &mut Switch) -> Result<(), AllocError> {
     let (role, generation) = (MASTER, 1);
     let leads = OfMessage::RoleRequest { role, generation };
     turn(switch, of_0(Spoken::Plain(leads)))?;

@@ -46,10 +46,7 @@ fn on_message(
             commit,
             entry,
         } => on_prepare(state, from, view, op, commit, entry, out),
-        VrMessage::PrepareOk { view, op } => {
-            on_prepare_ok(state, from, view, op);
-            Ok(())
-        }
+        VrMessage::PrepareOk { view, op } => Ok(on_prepare_ok(state, from, view, op)),
         VrMessage::Commit { view, commit } => on_commit(state, from, view, commit, out),
         VrMessage::StartViewChange { view } => on_start_view_change(state, from, view, out),
         VrMessage::DoViewChange {

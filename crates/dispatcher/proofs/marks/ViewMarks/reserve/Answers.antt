@@ -1,4 +1,4 @@
-use Rattle.std.proofs.Common.{ap, arith, length, sym, subst, IsPermutation}
+use Rattle.std.proofs.Common.{ap, arith, length}
 use Rattle.std.proofs.lemmas.List.Sorted.{IsPermutation-trans, length_permutation}
 use Rattle.std.proofs.lemmas.Result.{on_ok_weaker}
 use Rattle.dispatcher.proofs.marks.ViewMarks.reserve.Goals as goal

@@ -1,10 +1,10 @@
-use Rattle.std.proofs.Common.{◌≡◌, ◌∙◌, ℕ, List, length, sym, ap, subst}
+use Rattle.std.proofs.Common.{◌∙◌, ℕ, List, length, sym, ap, subst}
 use Rattle.of_types.specs.declared.message.Fields.{Fields}
 use Rattle.flow_clock.specs.Clocked.{Clocked, clock_hit}
 use Rattle.flow_table.specs.Table.{chosen_row}
 use Rattle.of_switch.specs.contracts.switch.Switch.{the_view}
 use Rattle.of_switch.specs.State.{SwitchState, SwitchTurn, rows_of}
-use Rattle.of_switch.specs.Forwarding.{counting_ports, frame_fields_at}
+use Rattle.of_switch.specs.Forwarding.{frame_fields_at}
 use Rattle.of_switch.specs.Drafts.{Draft, IsDraft, draft_of, drafted, with_draft_row}
 use Rattle.of_switch.proofs.Turns.{row-is, row-drafted}
 use Rattle.of_switch.proofs.switch.Switch.meet_table.Goals as goal

@@ -1,0 +1,2 @@
+pub mod AgreeingMarks
+pub mod Forgetting
